@@ -1,0 +1,19 @@
+-- Graded matrices: rows are homogeneous vectors over one free module. (homalg's convention: a matrix acts on row vectors
+-- from the right, and the rows of a presentation matrix are its relations.)
+use Rattle.std.specs.Prelude.{ℕ, List, map, ℤ}
+use Rattle.std.specs.List.{AllByRecursion}
+use Rattle.sf_algebra.specs.Vectors.{Vector, IsVector}
+
+-- the modulus, the degrees of the generators that the columns stand for, and the rows with their degrees
+pub record Matrix : Type 0 where
+  pub modulus : ℕ
+  pub target : List ℤ
+  pub rows : List Vector
+
+-- the degrees of the rows: those of the free module from which the matrix goes
+abbrev pub row_degrees : Matrix → List ℤ
+row_degrees m = map (λ (v : Vector). v.degree) m.rows
+
+-- each row is a homogeneous vector over the target
+abbrev pub IsMatrix : Matrix → Type 0
+IsMatrix m = AllByRecursion (IsVector m.modulus m.target) m.rows

@@ -1,0 +1,50 @@
+-- Homogeneous vectors of a free module. A free module is the list of its generators' degrees. (Textbook; position over
+-- term is the order of Cox, Little, O'Shea, "Using Algebraic Geometry", chapter 5, section 2.)
+use Rattle.std.specs.Prelude.{◌≡◌, ℕ, ◌<◌, List, [], ◌∷◌, length, slice_index_or, ℤ, pos, ◌+ℤ◌}
+use Rattle.std.specs.declared.cmp.Ordering.{Ordering}
+use Rattle.std.specs.Ordering.{nat_cmp, on, flip_args, then_cmp}
+use Rattle.std.specs.List.{AllByRecursion}
+use Rattle.sf_algebra.specs.Monomials.{Monomial, monomial_cmp, exponent_sum}
+use Rattle.sf_algebra.specs.Terms.{Term, IsCanonical}
+
+-- where a term of a vector stands: a generator, counted from 0, and a monomial
+pub record Place : Type 0 where
+  pub position : ℕ
+  pub monomial : Monomial
+
+-- an earlier position is greater; at one position the monomials decide
+abbrev pub place_cmp : Place → Place → Ordering
+place_cmp =
+    then_cmp (flip_args (on (λ (a : Place). a.position) nat_cmp))
+    (on (λ (a : Place). a.monomial) monomial_cmp)
+
+-- a vector with its degree, which a zero vector keeps
+pub record Vector : Type 0 where
+  pub degree : ℤ
+  pub terms : List (Term Place)
+
+-- the degree of the generator at a position
+abbrev pub generator_degree : List ℤ → ℕ → ℤ
+generator_degree degrees i = slice_index_or degrees i (pos 0)
+
+-- the degree of a term: that of its generator and the sum of its exponents
+abbrev pub term_degree : List ℤ → Term Place → ℤ
+term_degree degrees t = generator_degree degrees t.at.position +ℤ pos (exponent_sum t.at.monomial)
+
+-- a term of degree d at one of the generators
+abbrev pub IsTermOfDegree : List ℤ → ℤ → Term Place → Type 0
+IsTermOfDegree degrees d t = (t.at.position < length degrees) × (d ≡ term_degree degrees t)
+
+-- all terms have degree d
+abbrev pub IsHomogeneous : List ℤ → ℤ → List (Term Place) → Type 0
+IsHomogeneous degrees d = AllByRecursion (IsTermOfDegree degrees d)
+
+-- the degree of a row that is written without one: that of its first term, and 0 where there is none
+abbrev pub row_degree : List ℤ → List (Term Place) → ℤ
+row_degree degrees [] = pos 0
+row_degree degrees (t ∷ ts) = term_degree degrees t
+
+-- v is a homogeneous vector over this free module, with residues modulo p
+pub record IsVector (p : ℕ) (degrees : List ℤ) (v : Vector) : Type 0 where
+  pub canonical : IsCanonical place_cmp p v.terms
+  pub homogeneous : IsHomogeneous degrees v.degree v.terms

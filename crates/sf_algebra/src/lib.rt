@@ -1,0 +1,9 @@
+//! Definitions and lemmas of the algebra, on which every other crate stands.
+//!
+//! The definitions are in `specs/`, the lemmas in `proofs/`. The functions here do nothing: the
+//! contract of each is a law of the definitions.
+#![tactic(auto)]
+
+mod order;
+
+pub use order::{monomial_order, place_order};

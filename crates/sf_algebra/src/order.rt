@@ -1,0 +1,13 @@
+ghost use Rattle.sf_algebra.specs.Orders.{IsLinearOrder};
+ghost use Rattle.sf_algebra.specs.Monomials.{monomial_cmp};
+ghost use Rattle.sf_algebra.specs.Vectors.{place_cmp};
+
+/// The order of monomials is linear.
+pub fn monomial_order()
+    ensures { IsLinearOrder monomial_cmp }
+{}
+
+/// The order of the places of a free module is linear.
+pub fn place_order()
+    ensures { IsLinearOrder place_cmp }
+{}
