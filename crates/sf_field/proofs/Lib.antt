@@ -1,0 +1,4 @@
+pub mod Inverses
+pub mod Moduli
+pub mod Primes
+pub mod Residues

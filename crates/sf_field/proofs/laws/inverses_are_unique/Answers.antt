@@ -1,0 +1,5 @@
+use Rattle.sf_field.proofs.Inverses.{inverse_unique}
+use Rattle.sf_field.proofs.laws.inverses_are_unique.Goals as goal
+
+pub returns : goal.returns
+returns c = λ p listed. inverse_unique p

@@ -1,0 +1,4 @@
+pub mod Field
+pub mod Moduli
+pub mod Primes
+pub mod Residues
