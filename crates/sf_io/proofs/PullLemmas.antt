@@ -1,0 +1,45 @@
+-- Pulls in turn: what they gave together.
+use Rattle.std.proofs.Common.{◌≡◌, ℕ, ◌+◌, ◌≤◌, ◌-◌, List, ◌++◌, length, take, drop, Option, refl, sym, ◌∙◌, arith, length-take-le, length-drop, take-append-drop}
+use Rattle.std.proofs.Math.Seq.{take-add}
+use Rattle.std.proofs.lemmas.List.{take_all, take-append-le, drop-drop}
+use Rattle.std.proofs.KnownBytes.{Consumes-nil, Consumes-trans}
+use Rattle.std.specs.Io.KnownBytes.{Consumes}
+use Rattle.sf_io.specs.Count.{RoseBy}
+use Rattle.sf_io.specs.Pull.{Gives}
+
+-- a source filled the first n bytes of the room, and its faults didn't fall
+pub record Fills (old-left new-left : Option (List ℕ)) (old-given new-given old-faults new-faults : ℕ) (room : List ℕ) (n : ℕ) : Type 0 where
+  pub within : n ≤ length room
+  pub gives : Gives old-left new-left old-given new-given (take n room)
+  pub later : old-faults ≤ new-faults
+
+-- before the first pull
+pub Gives-nil : (left : Option (List ℕ)) (given : ℕ) (room : List ℕ) → Gives left left given given (take 0 room)
+Gives-nil left given room =
+    record { next = Consumes-nil left; counted = record { least = omega arith; most = omega arith; exact = λ _. omega arith } }
+
+-- one pull more, which put n bytes after the first i
+pub Gives-more : (a b c : Option (List ℕ)) (k m o : ℕ) (old new : List ℕ) (i n : ℕ)
+    → Gives a b k m (take i old) → i ≤ length old → take i new ≡ take i old
+    → Consumes b c (take n (drop i new)) → RoseBy n m o → i + n ≤ length new
+    → Gives a c k o (take (i + n) new)
+Gives-more a b c k m o old new i n before within kept more counted room =
+    let bytes : take (i + n) new ≡ take i old ++ take n (drop i new) = rw (take-add i n new, kept) refl in
+    let before_count : length (take i old) ≡ i = length-take-le i old within in
+    let count : length (take (i + n) new) ≡ i + n = length-take-le (i + n) new room in
+    record {
+        next = rw bytes (Consumes-trans a b c _ _ before.next more);
+        counted = record { least = omega arith; most = omega arith; exact = λ short. omega arith }
+    }
+
+-- the bytes from a place on are the n that were copied to the front of the room, and those after them
+pub drop-copied : (bytes room copied : List ℕ) (at n : ℕ) → n ≤ length (take (length bytes - at) (drop at bytes))
+    → copied ≡ take n (take (length bytes - at) (drop at bytes))
+    → drop at bytes ≡ take n (copied ++ drop n room) ++ drop (at + n) bytes
+drop-copied bytes room copied at n within copy =
+    let rest : take (length bytes - at) (drop at bytes) ≡ drop at bytes = take_all _ _ (omega (arith, length-drop at bytes)) in
+    let next : copied ≡ take n (drop at bytes) = rw rest at copy in
+    let count : n ≤ length (drop at bytes) = rw rest at within in
+    let length-copied : length copied ≡ n = rw next (length-take-le n (drop at bytes) count) in
+    let front : take n (copied ++ drop n room) ≡ copied = take-append-le n copied _ (omega arith) ∙ take_all n copied (omega arith) in
+    rw (front, next, ← drop-drop n at bytes) (sym (take-append-drop n (drop at bytes)))

@@ -1,0 +1,4 @@
+pub mod Count
+pub mod Pull
+pub mod Push
+pub mod Memory

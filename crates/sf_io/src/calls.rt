@@ -1,0 +1,54 @@
+ghost use Rattle.std.specs.Prelude.{◌≡◌, ◌↔◌, ◌+◌, ◌-◌, ◌^◌, ◌≤◌, min, IsTrue};
+ghost use Rattle.sf_io.specs.Memory.{IsListed, counted};
+
+use std::marker::Model;
+
+/// Counts the calls of a source or a sink in memory, and knows which of them fail.
+#[derive(Debug, Drop)]
+pub struct Calls {
+    fails: Vec<u32>,
+    made: u32,
+    faults: u64,
+}
+
+impl Model for Calls {
+    ghost use Rattle.sf_io.specs.Memory.{Calls};
+
+    ghost Value = { Calls };
+
+    ghost view = { λ c. record { fails = c.fails.items; made = c.made; faults = c.faults } };
+}
+
+impl Calls {
+    pub fn new(fails: Vec<u32>) -> Self
+        ensures { result ≡ record { fails = fails.items; made = 0; faults = 0 } }
+    {
+        Calls {
+            fails,
+            made: 0,
+            faults: 0,
+        }
+    }
+
+    /// Counts one call more, and says whether the list has its number.
+    pub fn is_next_listed(&mut self) -> bool
+        ensures listed { IsTrue result ↔ IsListed self.old }
+        ensures counted { self.new ≡ counted self.old }
+    {
+        match self.made.checked_add(1) {
+            Some(number) => {
+                self.made = number;
+                self.fails.contains(&number)
+            }
+            None => false,
+        }
+    }
+
+    /// Counts a fault.
+    pub fn raise_faults(&mut self)
+        ensures raised { self.new ≡ record self.old { faults = min (self.old.faults + 1) (2 ^ 64 - 1) } }
+        ensures later { self.old.faults ≤ self.new.faults }
+    {
+        self.faults = self.faults.saturating_add(1);
+    }
+}

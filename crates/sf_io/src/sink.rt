@@ -1,0 +1,50 @@
+ghost use Rattle.std.specs.Prelude.{◌≡◌, ℕ, ◌<◌, ◌≤◌, List, length, take, Option, IsSome, OnOk, OnErr};
+ghost use Rattle.std.specs.Io.KnownBytes.{Appends};
+ghost use Rattle.sf_io.specs.Count.{Rose};
+ghost use Rattle.sf_io.specs.Push.{IfTook, pushed};
+
+use crate::errors::WriteFault;
+
+/// What one push did: it took so many bytes, or failed.
+#[derive(Clone, Copy, Debug, PartialEq, Eq, Hash)]
+pub enum Push {
+    Took(usize),
+    Failed,
+}
+
+/// Where bytes go.
+pub trait Sink {
+    // The bytes that were written so far, where the sink tells them.
+    ghost written: { Self → Option (List ℕ) };
+
+    // How many calls failed.
+    ghost faults: { Self → ℕ };
+
+    /// Appends bytes from the front of the piece.
+    fn push(&mut self, piece: &[u8]) -> Push
+        requires { 0 < length piece.now }
+        ensures count { IfTook result (λ n. (0 < n) × (n ≤ length piece.now)) }
+        ensures bytes { Appends (written self.old) (written self.new) (take (pushed result) piece.now) }
+        ensures told { IsSome (written self.old) → IsSome (written self.new) }
+        ensures failed { result ≡ Push.Failed → Rose (faults self.old) (faults self.new) }
+        ensures later { faults self.old ≤ faults self.new };
+}
+
+/// Writes all the bytes. Each push is offered all that are left. At a fault a front of them was written,
+/// and not the whole.
+pub fn write_all<K: Sink>(sink: &mut K, bytes: &[u8]) -> Result<(), WriteFault>
+    ensures ok { OnOk result (Appends (K.written sink.old) (K.written sink.new) bytes.now) }
+    ensures part { OnErr result ((n : ℕ) × (n < length bytes.now)
+        × Appends (K.written sink.old) (K.written sink.new) (take n bytes.now)) }
+    ensures fault { OnErr result (Rose (K.faults sink.old) (K.faults sink.new)) }
+    ensures later { K.faults sink.old ≤ K.faults sink.new }
+{
+    let mut at = 0;
+    while at < bytes.len() {
+        match sink.push(&bytes[at..]) {
+            Push::Took(count) => at += count,
+            Push::Failed => return Err(WriteFault),
+        }
+    }
+    Ok(())
+}

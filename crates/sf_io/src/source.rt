@@ -1,0 +1,112 @@
+ghost use Rattle.std.specs.Prelude.{◌≡◌, ◌≢◌, ℕ, ◌+◌, ◌-◌, ◌^◌, ◌<◌, ◌≤◌, List, [], length, take, drop, Option, IsSome, IfOk, OnOk, IsErrOf, IfSome};
+ghost use Rattle.std.specs.Io.KnownBytes.{Consumes, IsAtEnd};
+ghost use Rattle.sf_io.specs.Count.{Rose, RoseBy, RoseMore};
+ghost use Rattle.sf_io.specs.Pull.{IfGot, pulled, Gives};
+
+use crate::errors::ReadError;
+use std::alloc::Global;
+
+/// What one pull gave: so many bytes, the end, or a failure.
+#[derive(Clone, Copy, Debug, PartialEq, Eq, Hash)]
+pub enum Pull {
+    Got(usize),
+    End,
+    Failed,
+}
+
+/// Where bytes come from.
+pub trait Source {
+    // The bytes that are left, where the source tells them.
+    ghost left: { Self → Option (List ℕ) };
+
+    // How many calls failed.
+    ghost faults: { Self → ℕ };
+
+    // How many bytes were given.
+    ghost given: { Self → ℕ };
+
+    /// Puts the next bytes at the front of the room.
+    fn pull(&mut self, room: &mut [u8]) -> Pull
+        requires { 0 < length room.old }
+        ensures count { IfGot result (λ n. (0 < n) × (n ≤ length room.old)) }
+        ensures bytes { Consumes (left self.old) (left self.new) (take (pulled result) room.new) }
+        ensures told { IsSome (left self.old) → IsSome (left self.new) }
+        ensures given { RoseBy (pulled result) (given self.old) (given self.new) }
+
+        // Where the bytes are told, the end comes exactly where none is left and the call doesn't fail.
+        ensures end { result ≡ Pull.End → IsAtEnd (left self.new) }
+        ensures none_left { left self.old ≡ Some [] → result ≢ Pull.Failed → result ≡ Pull.End }
+
+        ensures failed { result ≡ Pull.Failed → Rose (faults self.old) (faults self.new) }
+        ensures later { faults self.old ≤ faults self.new };
+}
+
+/// Reads a source to its end, which must come within `cap` bytes. It takes its memory before the first
+/// pull, and pulls at most one byte more than `cap`.
+pub fn read_all<S: Source>(alloc: Global, source: &mut S, cap: usize) -> Result<Vec<u8>, ReadError>
+    ensures bytes { IfOk result (λ v. Consumes (S.left source.old) (S.left source.new) v.items) }
+    ensures given { IfOk result (λ v. RoseBy (length v.items) (S.given source.old) (S.given source.new)) }
+    ensures end { OnOk result (IsAtEnd (S.left source.new)) }
+    ensures short { IfOk result (λ v. length v.items ≤ cap) }
+
+    // At a fault no more than `cap` bytes came.
+    ensures fault { IsErrOf result ReadError.Fault → Rose (S.faults source.old) (S.faults source.new) }
+    ensures before_fault { IsErrOf result ReadError.Fault → ((read : List ℕ)
+        × Gives (S.left source.old) (S.left source.new) (S.given source.old) (S.given source.new) read
+        × (length read ≤ cap)) }
+
+    // `TooLong` comes where more than `cap` bytes came.
+    ensures too_long { IsErrOf result ReadError.TooLong → ((read : List ℕ)
+        × Gives (S.left source.old) (S.left source.new) (S.given source.old) (S.given source.new) read
+        × (length read ≡ cap + 1)) }
+    ensures told { IsErrOf result ReadError.TooLong → IfSome (S.left source.old) (λ bytes. cap < length bytes) }
+    ensures many { IsErrOf result ReadError.TooLong → RoseMore cap (S.given source.old) (S.given source.new) }
+
+    ensures memory { IsErrOf result ReadError.Memory → source.new ≡ source.old }
+    ensures later { S.faults source.old ≤ S.faults source.new }
+{
+    let mut bytes = vec![in alloc; 0; cap.saturating_add(1)]?;
+    let count = fill(source, &mut bytes)?;
+    bytes.truncate(count);
+    Ok(bytes)
+}
+
+/// Pulls until the source ends, fails or has filled the room, and answers how many bytes came before the
+/// end.
+fn fill<S: Source>(source: &mut S, room: &mut [u8]) -> Result<usize, ReadError>
+    ensures ok { IfOk result (λ n. Gives (S.left source.old) (S.left source.new) (S.given source.old) (S.given source.new) (take n room.new)) }
+    ensures end { OnOk result (IsAtEnd (S.left source.new)) }
+    ensures short { IfOk result (λ n. n < length room.old) }
+    ensures fault { IsErrOf result ReadError.Fault → Rose (S.faults source.old) (S.faults source.new) }
+    ensures before_fault { IsErrOf result ReadError.Fault → ((read : List ℕ)
+        × Gives (S.left source.old) (S.left source.new) (S.given source.old) (S.given source.new) read
+        × (length read < length room.old)) }
+    ensures too_long { IsErrOf result ReadError.TooLong
+        → Gives (S.left source.old) (S.left source.new) (S.given source.old) (S.given source.new) room.new }
+    ensures memory { result ≢ Err ReadError.Memory }
+    ensures later { S.faults source.old ≤ S.faults source.new }
+{
+    let mut filled = 0;
+    while filled < room.len() {
+        match pull_at(source, room, filled) {
+            Pull::Got(count) => filled += count,
+            Pull::End => return Ok(filled),
+            Pull::Failed => return Err(ReadError::Fault),
+        }
+    }
+    Err(ReadError::TooLong)
+}
+
+/// Pulls into the room from a place on, and keeps what stands before it.
+fn pull_at<S: Source>(source: &mut S, room: &mut [u8], at: usize) -> Pull
+    requires { at < length room.old }
+    ensures kept { take at room.new ≡ take at room.old }
+    ensures count { IfGot result (λ n. (0 < n) × (n + at ≤ length room.old)) }
+    ensures bytes { Consumes (S.left source.old) (S.left source.new) (take (pulled result) (drop at room.new)) }
+    ensures given { RoseBy (pulled result) (S.given source.old) (S.given source.new) }
+    ensures end { result ≡ Pull.End → IsAtEnd (S.left source.new) }
+    ensures failed { result ≡ Pull.Failed → Rose (S.faults source.old) (S.faults source.new) }
+    ensures later { S.faults source.old ≤ S.faults source.new }
+{
+    source.pull(&mut room[at..])
+}
