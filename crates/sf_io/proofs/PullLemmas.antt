@@ -8,29 +8,30 @@ use Rattle.sf_io.specs.Count.{RoseBy}
 use Rattle.sf_io.specs.Pull.{Gives}
 
 -- a source filled the first n bytes of the room, and its faults didn't fall
-pub record Fills (old-left new-left : Option (List ℕ)) (old-given new-given old-faults new-faults : ℕ) (room : List ℕ) (n : ℕ) : Type 0 where
+pub record Fills {S : Type 0} (left : S → Option (List ℕ)) (given faults : S → ℕ) (old new : S) (room : List ℕ) (n : ℕ) : Type 0 where
   pub within : n ≤ length room
-  pub gives : Gives old-left new-left old-given new-given (take n room)
-  pub later : old-faults ≤ new-faults
+  pub gives : Gives left given old new (take n room)
+  pub later : faults old ≤ faults new
 
--- before the first pull
-pub Gives-nil : (left : Option (List ℕ)) (given : ℕ) (room : List ℕ) → Gives left left given given (take 0 room)
-Gives-nil left given room =
-    record { next = Consumes-nil left; counted = record { least = omega arith; most = omega arith; exact = λ _. omega arith } }
+module _ {S : Type 0} (left : S → Option (List ℕ)) (given : S → ℕ) where
+  -- before the first pull
+  pub Gives-nil : (a : S) (room : List ℕ) → Gives left given a a (take 0 room)
+  Gives-nil a room =
+      record { next = Consumes-nil (left a); counted = record { least = omega arith; most = omega arith; exact = λ _. omega arith } }
 
--- one pull more, which put n bytes after the first i
-pub Gives-more : (a b c : Option (List ℕ)) (k m o : ℕ) (old new : List ℕ) (i n : ℕ)
-    → Gives a b k m (take i old) → i ≤ length old → take i new ≡ take i old
-    → Consumes b c (take n (drop i new)) → RoseBy n m o → i + n ≤ length new
-    → Gives a c k o (take (i + n) new)
-Gives-more a b c k m o old new i n before within kept more counted room =
-    let bytes : take (i + n) new ≡ take i old ++ take n (drop i new) = rw (take-add i n new, kept) refl in
-    let before_count : length (take i old) ≡ i = length-take-le i old within in
-    let count : length (take (i + n) new) ≡ i + n = length-take-le (i + n) new room in
-    record {
-        next = rw bytes (Consumes-trans a b c _ _ before.next more);
-        counted = record { least = omega arith; most = omega arith; exact = λ short. omega arith }
-    }
+  -- one pull more, which put n bytes after the first i
+  pub Gives-more : (a b c : S) (old new : List ℕ) (i n : ℕ)
+      → Gives left given a b (take i old) → i ≤ length old → take i new ≡ take i old
+      → Consumes (left b) (left c) (take n (drop i new)) → RoseBy n (given b) (given c) → i + n ≤ length new
+      → Gives left given a c (take (i + n) new)
+  Gives-more a b c old new i n before within kept more counted room =
+      let bytes : take (i + n) new ≡ take i old ++ take n (drop i new) = rw (take-add i n new, kept) refl in
+      let length-before : length (take i old) ≡ i = length-take-le i old within in
+      let length-after : length (take (i + n) new) ≡ i + n = length-take-le (i + n) new room in
+      record {
+        next = rw bytes (Consumes-trans (left a) (left b) (left c) _ _ before.next more);
+        counted = record { least = omega arith; most = omega arith; exact = λ short. omega arith };
+      }
 
 -- the bytes from a place on are the n that were copied to the front of the room, and those after them
 pub drop-copied : (bytes room copied : List ℕ) (at n : ℕ) → n ≤ length (take (length bytes - at) (drop at bytes))

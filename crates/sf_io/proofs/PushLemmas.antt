@@ -6,10 +6,10 @@ use Rattle.std.proofs.KnownBytes.{Appends-trans}
 use Rattle.std.specs.Io.KnownBytes.{Appends}
 
 -- a sink took the first n bytes, and its faults didn't fall
-pub record Takes (old-written new-written : Option (List ℕ)) (old-faults new-faults : ℕ) (bytes : List ℕ) (n : ℕ) : Type 0 where
+pub record Takes {K : Type 0} (written : K → Option (List ℕ)) (faults : K → ℕ) (old new : K) (bytes : List ℕ) (n : ℕ) : Type 0 where
   pub within : n ≤ length bytes
-  pub front : Appends old-written new-written (take n bytes)
-  pub later : old-faults ≤ new-faults
+  pub front : Appends (written old) (written new) (take n bytes)
+  pub later : faults old ≤ faults new
 
 -- one push more, which was offered all the bytes after the first i and took n
 pub Appends-more : (a b c : Option (List ℕ)) (bytes : List ℕ) (i n : ℕ)

@@ -18,6 +18,6 @@ pulled End = 0
 pulled Failed = 0
 
 -- a source gave these bytes: they are the next ones of those left, and the number given rose by theirs
-pub record Gives (old-left new-left : Option (List ℕ)) (old-given new-given : ℕ) (bytes : List ℕ) : Type 0 where
-  pub next : Consumes old-left new-left bytes
-  pub counted : RoseBy (length bytes) old-given new-given
+pub record Gives {S : Type 0} (left : S → Option (List ℕ)) (given : S → ℕ) (old new : S) (bytes : List ℕ) : Type 0 where
+  pub next : Consumes (left old) (left new) bytes
+  pub counted : RoseBy (length bytes) (given old) (given new)

@@ -8,9 +8,11 @@ mod memory_sink;
 mod memory_source;
 mod sink;
 mod source;
+mod standard;
 
 pub use errors::{OutOfMemory, ReadError, WriteFault};
 pub use memory_sink::MemSink;
 pub use memory_source::MemSource;
 pub use sink::{Push, Sink, write_all};
 pub use source::{Pull, Source, read_all};
+pub use standard::{StdSink, StdSource};

@@ -36,8 +36,12 @@ impl MemSink {
     /// calls that fail, counted from 1.
     pub fn new(alloc: Global, piece: usize, fails: Vec<u32>) -> Self
         requires { 0 < piece }
-        ensures { result ≡ record { bytes = []; piece = piece; room = 0;
-            calls = record { fails = fails.items; made = 0; faults = 0 } } }
+        ensures { result ≡ record {
+          bytes = [];
+          piece = piece;
+          room = 0;
+          calls = record { fails = fails.items; made = 0; faults = 0 };
+        } }
     {
         MemSink {
             bytes: Vec::new(alloc),

@@ -33,8 +33,12 @@ impl MemSource {
     /// fail, counted from 1.
     pub fn new(bytes: Vec<u8>, piece: usize, fails: Vec<u32>) -> Self
         requires { 0 < piece }
-        ensures { result ≡ record { rest = bytes.items; piece = piece; given = 0;
-            calls = record { fails = fails.items; made = 0; faults = 0 } } }
+        ensures { result ≡ record {
+          rest = bytes.items;
+          piece = piece;
+          given = 0;
+          calls = record { fails = fails.items; made = 0; faults = 0 };
+        } }
     {
         MemSource {
             bytes,

@@ -48,3 +48,6 @@ pub fn write_all<K: Sink>(sink: &mut K, bytes: &[u8]) -> Result<(), WriteFault>
     }
     Ok(())
 }
+
+#[cfg(test)]
+mod tests;

@@ -42,25 +42,27 @@ pub trait Source {
 }
 
 /// Reads a source to its end, which must come within `cap` bytes. It takes its memory before the first
-/// pull, and pulls at most one byte more than `cap`.
+/// pull, and reads at most one byte more than `cap`.
 pub fn read_all<S: Source>(alloc: Global, source: &mut S, cap: usize) -> Result<Vec<u8>, ReadError>
     ensures bytes { IfOk result (λ v. Consumes (S.left source.old) (S.left source.new) v.items) }
-    ensures given { IfOk result (λ v. RoseBy (length v.items) (S.given source.old) (S.given source.new)) }
+    ensures given { IfOk result (λ v.
+        RoseBy (length v.items) (S.given source.old) (S.given source.new)) }
     ensures end { OnOk result (IsAtEnd (S.left source.new)) }
     ensures short { IfOk result (λ v. length v.items ≤ cap) }
 
-    // At a fault no more than `cap` bytes came.
-    ensures fault { IsErrOf result ReadError.Fault → Rose (S.faults source.old) (S.faults source.new) }
-    ensures before_fault { IsErrOf result ReadError.Fault → ((read : List ℕ)
-        × Gives (S.left source.old) (S.left source.new) (S.given source.old) (S.given source.new) read
-        × (length read ≤ cap)) }
+    // A fault comes before more than `cap` bytes came.
+    ensures fault { IsErrOf result ReadError.Fault
+        → Rose (S.faults source.old) (S.faults source.new) }
+    ensures read_at_fault { IsErrOf result ReadError.Fault → ((read : List ℕ)
+        × Gives S.left S.given source.old source.new read × (length read ≤ cap)) }
 
-    // `TooLong` comes where more than `cap` bytes came.
+    // `TooLong` comes as soon as more than `cap` bytes came.
     ensures too_long { IsErrOf result ReadError.TooLong → ((read : List ℕ)
-        × Gives (S.left source.old) (S.left source.new) (S.given source.old) (S.given source.new) read
-        × (length read ≡ cap + 1)) }
-    ensures told { IsErrOf result ReadError.TooLong → IfSome (S.left source.old) (λ bytes. cap < length bytes) }
-    ensures many { IsErrOf result ReadError.TooLong → RoseMore cap (S.given source.old) (S.given source.new) }
+        × Gives S.left S.given source.old source.new read × (length read ≡ cap + 1)) }
+    ensures too_many_left { IsErrOf result ReadError.TooLong
+        → IfSome (S.left source.old) (λ bytes. cap < length bytes) }
+    ensures too_many_given { IsErrOf result ReadError.TooLong
+        → RoseMore cap (S.given source.old) (S.given source.new) }
 
     ensures memory { IsErrOf result ReadError.Memory → source.new ≡ source.old }
     ensures later { S.faults source.old ≤ S.faults source.new }
@@ -71,18 +73,22 @@ pub fn read_all<S: Source>(alloc: Global, source: &mut S, cap: usize) -> Result<
     Ok(bytes)
 }
 
-/// Pulls until the source ends, fails or has filled the room, and answers how many bytes came before the
-/// end.
+/// Pulls until the source ends, fails or has filled the room, and answers how many bytes came before
+/// the end.
 fn fill<S: Source>(source: &mut S, room: &mut [u8]) -> Result<usize, ReadError>
-    ensures ok { IfOk result (λ n. Gives (S.left source.old) (S.left source.new) (S.given source.old) (S.given source.new) (take n room.new)) }
+    ensures given { IfOk result (λ n.
+        Gives S.left S.given source.old source.new (take n room.new)) }
     ensures end { OnOk result (IsAtEnd (S.left source.new)) }
     ensures short { IfOk result (λ n. n < length room.old) }
-    ensures fault { IsErrOf result ReadError.Fault → Rose (S.faults source.old) (S.faults source.new) }
-    ensures before_fault { IsErrOf result ReadError.Fault → ((read : List ℕ)
-        × Gives (S.left source.old) (S.left source.new) (S.given source.old) (S.given source.new) read
-        × (length read < length room.old)) }
+
+    ensures fault { IsErrOf result ReadError.Fault
+        → Rose (S.faults source.old) (S.faults source.new) }
+    ensures read_at_fault { IsErrOf result ReadError.Fault → ((read : List ℕ)
+        × Gives S.left S.given source.old source.new read × (length read < length room.old)) }
+
     ensures too_long { IsErrOf result ReadError.TooLong
-        → Gives (S.left source.old) (S.left source.new) (S.given source.old) (S.given source.new) room.new }
+        → Gives S.left S.given source.old source.new room.new }
+
     ensures memory { result ≢ Err ReadError.Memory }
     ensures later { S.faults source.old ≤ S.faults source.new }
 {
@@ -101,8 +107,9 @@ fn fill<S: Source>(source: &mut S, room: &mut [u8]) -> Result<usize, ReadError>
 fn pull_at<S: Source>(source: &mut S, room: &mut [u8], at: usize) -> Pull
     requires { at < length room.old }
     ensures kept { take at room.new ≡ take at room.old }
-    ensures count { IfGot result (λ n. (0 < n) × (n + at ≤ length room.old)) }
-    ensures bytes { Consumes (S.left source.old) (S.left source.new) (take (pulled result) (drop at room.new)) }
+    ensures count { IfGot result (λ n. (0 < n) × (at + n ≤ length room.old)) }
+    ensures bytes { let next = take (pulled result) (drop at room.new) in
+        Consumes (S.left source.old) (S.left source.new) next }
     ensures given { RoseBy (pulled result) (S.given source.old) (S.given source.new) }
     ensures end { result ≡ Pull.End → IsAtEnd (S.left source.new) }
     ensures failed { result ≡ Pull.Failed → Rose (S.faults source.old) (S.faults source.new) }
@@ -110,3 +117,6 @@ fn pull_at<S: Source>(source: &mut S, room: &mut [u8], at: usize) -> Pull
 {
     source.pull(&mut room[at..])
 }
+
+#[cfg(test)]
+mod tests;

@@ -7,7 +7,7 @@ loop-at-preserved g c =
     let before = c.loop-at.invariant in
     let push = c.in-Took.ensures in
     record {
-        within = omega (arith, push.count);
-        front = Appends-more _ _ _ _ _ _ before.front push.bytes;
-        later = omega arith
+      within = omega (arith, push.count);
+      front = Appends-more _ _ _ _ _ _ before.front push.bytes;
+      later = omega arith;
     }

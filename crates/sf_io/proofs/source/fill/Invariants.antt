@@ -5,8 +5,7 @@ use Rattle.sf_io.proofs.source.fill.Given as goal
 abbrev pub invariant-loop-filled : goal.invariant-loop-filled
 invariant-loop-filled g l =
     let s = g.S.Source in
-    let before = l.initial.source in
-    Fills (s.left before) (s.left l.source) (s.given before) (s.given l.source) (s.faults before) (s.faults l.source) l.room l.filled
+    Fills s.left s.given s.faults l.initial.source l.source l.room l.filled
 
 abbrev pub decreases-loop-filled : goal.decreases-loop-filled
 decreases-loop-filled g l = length l.initial.room - l.filled

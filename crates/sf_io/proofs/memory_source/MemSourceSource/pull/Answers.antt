@@ -7,6 +7,6 @@ returns-clause-bytes c =
     let source = c.self.inside in
     let count = rw c.deref.ensures.value at c.min-count.ensures in
     rw (← c.self.view_is)
-        (drop-copied source.bytes.items c.args.room.now c.copy_from_slice.new.self source.at c.min-count.result
-            (omega (arith, count))
-            (rw c.deref.ensures.value at c.copy_from_slice.ensures.after))
+    (drop-copied source.bytes.items c.args.room.now c.copy_from_slice.new.self source.at c.min-count.result
+    (omega (arith, count))
+    (rw c.deref.ensures.value at c.copy_from_slice.ensures.after))
