@@ -1,4 +1,4 @@
--- How a count of faults or of bytes rises. A count of 64 bits stays at its last value once it is there.
+-- How a count of faults or of bytes rises. A count of 64 bits stays at its last value.
 use Rattle.std.specs.Prelude.{◌≡◌, ℕ, ◌+◌, ◌-◌, ◌^◌, ◌<◌, ◌≤◌}
 
 -- the count rose, or it stands at its last value

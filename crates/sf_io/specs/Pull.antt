@@ -12,12 +12,13 @@ IfGot End P = Unit {0}
 IfGot Failed P = Unit {0}
 
 -- how many bytes the pull gave
-abbrev pub pulled : Pull → ℕ
-pulled (Got n) = n
-pulled End = 0
-pulled Failed = 0
+abbrev pub pulled_count : Pull → ℕ
+pulled_count (Got n) = n
+pulled_count End = 0
+pulled_count Failed = 0
 
--- a source gave these bytes: they are the next ones of those left, and the number given rose by theirs
-pub record Gives {S : Type 0} (left : S → Option (List ℕ)) (given : S → ℕ) (old new : S) (bytes : List ℕ) : Type 0 where
+-- a source gave these bytes: the next ones of those left, and the number given rose by theirs
+pub record Gives {S : Type 0} (left : S → Option (List ℕ)) (given : S → ℕ)
+    (old new : S) (bytes : List ℕ) : Type 0 where
   pub next : Consumes (left old) (left new) bytes
   pub counted : RoseBy (length bytes) (given old) (given new)

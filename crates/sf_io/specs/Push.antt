@@ -9,6 +9,6 @@ IfTook (Took n) P = P n
 IfTook Failed P = Unit {0}
 
 -- how many bytes the push took
-abbrev pub pushed : Push → ℕ
-pushed (Took n) = n
-pushed Failed = 0
+abbrev pub pushed_count : Push → ℕ
+pushed_count (Took n) = n
+pushed_count Failed = 0

@@ -1,5 +1,5 @@
 ghost use Rattle.std.specs.Prelude.{◌≡◌, ◌↔◌, ◌+◌, ◌-◌, ◌^◌, ◌≤◌, min, IsTrue};
-ghost use Rattle.sf_io.specs.Memory.{IsListed, counted};
+ghost use Rattle.sf_io.specs.Calls.{IsNextListed, one_call_more, one_fault_more};
 
 use std::marker::Model;
 
@@ -12,7 +12,7 @@ pub struct Calls {
 }
 
 impl Model for Calls {
-    ghost use Rattle.sf_io.specs.Memory.{Calls};
+    ghost use Rattle.sf_io.specs.Calls.{Calls};
 
     ghost Value = { Calls };
 
@@ -32,8 +32,8 @@ impl Calls {
 
     /// Counts one call more, and says whether the list has its number.
     pub fn is_next_listed(&mut self) -> bool
-        ensures listed { IsTrue result ↔ IsListed self.old }
-        ensures counted { self.new ≡ counted self.old }
+        ensures listed { IsTrue result ↔ IsNextListed self.old }
+        ensures made { self.new ≡ one_call_more self.old }
     {
         match self.made.checked_add(1) {
             Some(number) => {
@@ -46,7 +46,7 @@ impl Calls {
 
     /// Counts a fault.
     pub fn raise_faults(&mut self)
-        ensures raised { self.new ≡ record self.old { faults = min (self.old.faults + 1) (2 ^ 64 - 1) } }
+        ensures raised { self.new ≡ one_fault_more self.old }
         ensures later { self.old.faults ≤ self.new.faults }
     {
         self.faults = self.faults.saturating_add(1);

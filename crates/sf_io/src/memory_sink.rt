@@ -1,8 +1,9 @@
 ghost use Rattle.std.specs.Prelude.{◌≡◌, ◌↔◌, ◌⊎◌, ℕ, ◌+◌, ◌-◌, ◌^◌, ◌<◌, ◌≤◌, min, List, [], length, take, Option, Some, IsSome, OnOk, OnErr};
 ghost use Rattle.std.specs.Io.KnownBytes.{Appends};
 ghost use Rattle.sf_io.specs.Count.{Rose};
-ghost use Rattle.sf_io.specs.Push.{IfTook, pushed};
-ghost use Rattle.sf_io.specs.Memory.{SinkInMemory, IsListed, pushed_to};
+ghost use Rattle.sf_io.specs.Push.{IfTook, pushed_count};
+ghost use Rattle.sf_io.specs.Calls.{IsNextListed};
+ghost use Rattle.sf_io.specs.MemSink.{sink_after};
 
 use crate::calls::Calls;
 use crate::errors::OutOfMemory;
@@ -10,8 +11,8 @@ use crate::sink::{Push, Sink};
 use std::alloc::Global;
 use std::marker::Model;
 
-/// A sink that keeps bytes in memory, in pieces of bounded length. It fails at the calls of a list, and
-/// where no room is left.
+/// A sink that keeps bytes in memory, in pieces of bounded length. It fails at the calls of a list,
+/// and where no room is left.
 #[derive(Debug, Drop)]
 pub struct MemSink {
     bytes: Vec<u8>,
@@ -22,18 +23,19 @@ pub struct MemSink {
 
 impl Model for MemSink {
     ghost use Rattle.std.specs.Prelude.{◌+◌, ◌<◌, ◌≤◌, vec_len, vec_capacity};
-    ghost use Rattle.sf_io.specs.Memory.{SinkInMemory};
+    ghost use Rattle.sf_io.specs.MemSink.{SinkInMemory};
 
     ghost Value = { SinkInMemory };
 
-    ghost view = { λ s. record { bytes = s.bytes.items; piece = s.piece; room = s.room; calls = s.calls } };
+    ghost view = { λ s. let bytes = s.bytes.items in
+        record { bytes = bytes; piece = s.piece; room = s.room; calls = s.calls } };
 
     ghost invariant = { λ s. (vec_len s.bytes + s.room ≤ vec_capacity s.bytes) × (0 < s.piece) };
 }
 
 impl MemSink {
-    /// An empty sink with no room, which takes pieces of at most `piece`. The list has the numbers of the
-    /// calls that fail, counted from 1.
+    /// An empty sink with no room, which takes pieces of at most `piece`. The list has the numbers
+    /// of the calls that fail, counted from 1.
     pub fn new(alloc: Global, piece: usize, fails: Vec<u32>) -> Self
         requires { 0 < piece }
         ensures { result ≡ record {
@@ -78,15 +80,19 @@ impl Sink for MemSink {
     fn push(&mut self, piece: &[u8]) -> Push
         requires { 0 < length piece.now }
         ensures count { IfTook result (λ n. (0 < n) × (n ≤ length piece.now)) }
-        ensures bytes { Appends (Some self.old.bytes) (Some self.new.bytes) (take (pushed result) piece.now) }
+        ensures bytes { let front = take (pushed_count result) piece.now in
+            Appends (Some self.old.bytes) (Some self.new.bytes) front }
         ensures told { IsSome (Some self.old.bytes) → IsSome (Some self.new.bytes) }
         ensures failed { result ≡ Push.Failed → Rose self.old.calls.faults self.new.calls.faults }
         ensures later { self.old.calls.faults ≤ self.new.calls.faults }
 
-        // It fails exactly where the list has the call's number or no room is left.
-        ensures listed { (result ≡ Push.Failed) ↔ (IsListed self.old.calls ⊎ (self.old.room ≡ 0)) }
-        ensures greatest { IfTook result (λ n. n ≡ min (min self.old.piece (length piece.now)) self.old.room) }
-        ensures after { self.new ≡ pushed_to self.old piece.now result }
+        // It fails exactly where the list has the call's number or no room is left. Else it takes
+        // the greatest piece that there is room for.
+        ensures refused { (result ≡ Push.Failed)
+            ↔ (IsNextListed self.old.calls ⊎ (self.old.room ≡ 0)) }
+        ensures greatest { let most = min self.old.piece (length piece.now) in
+            IfTook result (λ n. n ≡ min most self.old.room) }
+        ensures after { self.new ≡ sink_after self.old piece.now result }
     {
         let is_listed = self.calls.is_next_listed();
         if is_listed || self.room == 0 {

@@ -1,14 +1,16 @@
 ghost use Rattle.std.specs.Prelude.{◌≡◌, ◌≢◌, ◌↔◌, ℕ, ◌+◌, ◌-◌, ◌^◌, ◌<◌, ◌≤◌, min, List, [], length, take, drop, Option, Some, IsSome, IsTrue};
 ghost use Rattle.std.specs.Io.KnownBytes.{Consumes, IsAtEnd};
 ghost use Rattle.sf_io.specs.Count.{Rose, RoseBy};
-ghost use Rattle.sf_io.specs.Pull.{IfGot, pulled};
-ghost use Rattle.sf_io.specs.Memory.{SourceInMemory, IsListed, pulled_from};
+ghost use Rattle.sf_io.specs.Pull.{IfGot, pulled_count};
+ghost use Rattle.sf_io.specs.Calls.{IsNextListed};
+ghost use Rattle.sf_io.specs.MemSource.{source_after};
 
 use crate::calls::Calls;
 use crate::source::{Pull, Source};
 use std::marker::Model;
 
-/// A source that gives bytes from memory, in pieces of bounded length, and fails at the calls of a list.
+/// A source that gives bytes from memory, in pieces of bounded length, and fails at the calls of a
+/// list.
 #[derive(Debug, Drop)]
 pub struct MemSource {
     bytes: Vec<u8>,
@@ -19,18 +21,19 @@ pub struct MemSource {
 
 impl Model for MemSource {
     ghost use Rattle.std.specs.Prelude.{◌<◌, ◌≤◌, drop, vec_len};
-    ghost use Rattle.sf_io.specs.Memory.{SourceInMemory};
+    ghost use Rattle.sf_io.specs.MemSource.{SourceInMemory};
 
     ghost Value = { SourceInMemory };
 
-    ghost view = { λ s. record { rest = drop s.at s.bytes.items; piece = s.piece; given = s.at; calls = s.calls } };
+    ghost view = { λ s. let rest = drop s.at s.bytes.items in
+        record { rest = rest; piece = s.piece; given = s.at; calls = s.calls } };
 
     ghost invariant = { λ s. (s.at ≤ vec_len s.bytes) × (0 < s.piece) };
 }
 
 impl MemSource {
-    /// A source of these bytes, in pieces of at most `piece`. The list has the numbers of the calls that
-    /// fail, counted from 1.
+    /// A source of these bytes, in pieces of at most `piece`. The list has the numbers of the calls
+    /// that fail, counted from 1.
     pub fn new(bytes: Vec<u8>, piece: usize, fails: Vec<u32>) -> Self
         requires { 0 < piece }
         ensures { result ≡ record {
@@ -59,18 +62,22 @@ impl Source for MemSource {
     fn pull(&mut self, room: &mut [u8]) -> Pull
         requires { 0 < length room.old }
         ensures count { IfGot result (λ n. (0 < n) × (n ≤ length room.old)) }
-        ensures bytes { Consumes (Some self.old.rest) (Some self.new.rest) (take (pulled result) room.new) }
+        ensures bytes { let next = take (pulled_count result) room.new in
+            Consumes (Some self.old.rest) (Some self.new.rest) next }
         ensures told { IsSome (Some self.old.rest) → IsSome (Some self.new.rest) }
-        ensures given { RoseBy (pulled result) self.old.given self.new.given }
+        ensures given { RoseBy (pulled_count result) self.old.given self.new.given }
         ensures end { result ≡ Pull.End → self.new.rest ≡ [] }
-        ensures none_left { Some self.old.rest ≡ Some [] → result ≢ Pull.Failed → result ≡ Pull.End }
+        ensures none_left { Some self.old.rest ≡ Some [] → result ≢ Pull.Failed
+            → result ≡ Pull.End }
         ensures failed { result ≡ Pull.Failed → Rose self.old.calls.faults self.new.calls.faults }
         ensures later { self.old.calls.faults ≤ self.new.calls.faults }
 
-        // It fails exactly where the list has the call's number, and ends exactly where no byte is left then.
-        ensures listed { (result ≡ Pull.Failed) ↔ IsListed self.old.calls }
-        ensures greatest { IfGot result (λ n. n ≡ min (min self.old.piece (length room.old)) (length self.old.rest)) }
-        ensures after { self.new ≡ pulled_from self.old result }
+        // It fails exactly where the list has the call's number. Else it gives the greatest piece
+        // that is left and has room.
+        ensures listed { (result ≡ Pull.Failed) ↔ IsNextListed self.old.calls }
+        ensures greatest { let most = min self.old.piece (length room.old) in
+            IfGot result (λ n. n ≡ min most (length self.old.rest)) }
+        ensures after { self.new ≡ source_after self.old result }
     {
         if self.calls.is_next_listed() {
             self.calls.raise_faults();

@@ -1,7 +1,7 @@
 ghost use Rattle.std.specs.Prelude.{◌≡◌, ℕ, ◌<◌, ◌≤◌, List, length, take, Option, IsSome, OnOk, OnErr};
 ghost use Rattle.std.specs.Io.KnownBytes.{Appends};
 ghost use Rattle.sf_io.specs.Count.{Rose};
-ghost use Rattle.sf_io.specs.Push.{IfTook, pushed};
+ghost use Rattle.sf_io.specs.Push.{IfTook, pushed_count};
 
 use crate::errors::WriteFault;
 
@@ -24,14 +24,15 @@ pub trait Sink {
     fn push(&mut self, piece: &[u8]) -> Push
         requires { 0 < length piece.now }
         ensures count { IfTook result (λ n. (0 < n) × (n ≤ length piece.now)) }
-        ensures bytes { Appends (written self.old) (written self.new) (take (pushed result) piece.now) }
+        ensures bytes { let front = take (pushed_count result) piece.now in
+            Appends (written self.old) (written self.new) front }
         ensures told { IsSome (written self.old) → IsSome (written self.new) }
         ensures failed { result ≡ Push.Failed → Rose (faults self.old) (faults self.new) }
         ensures later { faults self.old ≤ faults self.new };
 }
 
-/// Writes all the bytes. Each push is offered all that are left. At a fault a front of them was written,
-/// and not the whole.
+/// Writes all the bytes. Each push is offered all that are left. At a fault a front of them was
+/// written, and not the whole.
 pub fn write_all<K: Sink>(sink: &mut K, bytes: &[u8]) -> Result<(), WriteFault>
     ensures ok { OnOk result (Appends (K.written sink.old) (K.written sink.new) bytes.now) }
     ensures part { OnErr result ((n : ℕ) × (n < length bytes.now)

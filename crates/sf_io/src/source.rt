@@ -1,7 +1,7 @@
 ghost use Rattle.std.specs.Prelude.{◌≡◌, ◌≢◌, ℕ, ◌+◌, ◌-◌, ◌^◌, ◌<◌, ◌≤◌, List, [], length, take, drop, Option, IsSome, IfOk, OnOk, IsErrOf, IfSome};
 ghost use Rattle.std.specs.Io.KnownBytes.{Consumes, IsAtEnd};
 ghost use Rattle.sf_io.specs.Count.{Rose, RoseBy, RoseMore};
-ghost use Rattle.sf_io.specs.Pull.{IfGot, pulled, Gives};
+ghost use Rattle.sf_io.specs.Pull.{IfGot, pulled_count, Gives};
 
 use crate::errors::ReadError;
 use std::alloc::Global;
@@ -29,11 +29,13 @@ pub trait Source {
     fn pull(&mut self, room: &mut [u8]) -> Pull
         requires { 0 < length room.old }
         ensures count { IfGot result (λ n. (0 < n) × (n ≤ length room.old)) }
-        ensures bytes { Consumes (left self.old) (left self.new) (take (pulled result) room.new) }
+        ensures bytes { let next = take (pulled_count result) room.new in
+            Consumes (left self.old) (left self.new) next }
         ensures told { IsSome (left self.old) → IsSome (left self.new) }
-        ensures given { RoseBy (pulled result) (given self.old) (given self.new) }
+        ensures given { RoseBy (pulled_count result) (given self.old) (given self.new) }
 
-        // Where the bytes are told, the end comes exactly where none is left and the call doesn't fail.
+        // Where the bytes are told, the end comes exactly where none is left and the call doesn't
+        // fail.
         ensures end { result ≡ Pull.End → IsAtEnd (left self.new) }
         ensures none_left { left self.old ≡ Some [] → result ≢ Pull.Failed → result ≡ Pull.End }
 
@@ -41,8 +43,8 @@ pub trait Source {
         ensures later { faults self.old ≤ faults self.new };
 }
 
-/// Reads a source to its end, which must come within `cap` bytes. It takes its memory before the first
-/// pull, and reads at most one byte more than `cap`.
+/// Reads a source to its end, which must come within `cap` bytes. It takes its memory before the
+/// first pull, and reads at most one byte more than `cap`.
 pub fn read_all<S: Source>(alloc: Global, source: &mut S, cap: usize) -> Result<Vec<u8>, ReadError>
     ensures bytes { IfOk result (λ v. Consumes (S.left source.old) (S.left source.new) v.items) }
     ensures given { IfOk result (λ v.
@@ -73,8 +75,8 @@ pub fn read_all<S: Source>(alloc: Global, source: &mut S, cap: usize) -> Result<
     Ok(bytes)
 }
 
-/// Pulls until the source ends, fails or has filled the room, and answers how many bytes came before
-/// the end.
+/// Pulls until the source ends, fails or has filled the room, and answers how many bytes came
+/// before the end.
 fn fill<S: Source>(source: &mut S, room: &mut [u8]) -> Result<usize, ReadError>
     ensures given { IfOk result (λ n.
         Gives S.left S.given source.old source.new (take n room.new)) }
@@ -108,9 +110,9 @@ fn pull_at<S: Source>(source: &mut S, room: &mut [u8], at: usize) -> Pull
     requires { at < length room.old }
     ensures kept { take at room.new ≡ take at room.old }
     ensures count { IfGot result (λ n. (0 < n) × (at + n ≤ length room.old)) }
-    ensures bytes { let next = take (pulled result) (drop at room.new) in
+    ensures bytes { let next = take (pulled_count result) (drop at room.new) in
         Consumes (S.left source.old) (S.left source.new) next }
-    ensures given { RoseBy (pulled result) (S.given source.old) (S.given source.new) }
+    ensures given { RoseBy (pulled_count result) (S.given source.old) (S.given source.new) }
     ensures end { result ≡ Pull.End → IsAtEnd (S.left source.new) }
     ensures failed { result ≡ Pull.Failed → Rose (S.faults source.old) (S.faults source.new) }
     ensures later { S.faults source.old ≤ S.faults source.new }

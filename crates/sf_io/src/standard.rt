@@ -1,8 +1,8 @@
 ghost use Rattle.std.specs.Prelude.{◌≡◌, ◌≢◌, ℕ, ◌<◌, ◌≤◌, List, [], length, take, Option, Some, IsSome};
 ghost use Rattle.std.specs.Io.KnownBytes.{Appends, Consumes, IsAtEnd};
 ghost use Rattle.sf_io.specs.Count.{Rose, RoseBy};
-ghost use Rattle.sf_io.specs.Pull.{IfGot, pulled};
-ghost use Rattle.sf_io.specs.Push.{IfTook, pushed};
+ghost use Rattle.sf_io.specs.Pull.{IfGot, pulled_count};
+ghost use Rattle.sf_io.specs.Push.{IfTook, pushed_count};
 
 use crate::sink::{Push, Sink};
 use crate::source::{Pull, Source};

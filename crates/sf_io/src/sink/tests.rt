@@ -1,7 +1,7 @@
 use crate::{MemSink, WriteFault, write_all};
 use std::test::Fail;
 
-// In pieces of 1 byte push 5 is the last. After a fault the next call writes after what was written.
+// In pieces of 1 byte push 5 is the last. A call after a fault writes after what was written.
 #[test]
 fn fails_at_each_push(rt: HostRuntime) -> Result<(), Fail> {
     let rows: [(u32, &[u8], &[u8]); 7] = [

@@ -1,8 +1,10 @@
+ghost use Rattle.std.specs.Prelude.{◌<◌};
+
 use crate::{MemSource, ReadError, read_all};
 use std::alloc::Global;
 use std::test::Fail;
 
-// What is read of five bytes, which come in pieces of at most `piece` and fail at pull `fail`.
+// Five bytes, which come in pieces of at most `piece` and fail at pull `fail`.
 fn hello(alloc: Global, piece: usize, fail: u32) -> Result<MemSource, Fail>
     requires { 0 < piece }
 {
@@ -23,19 +25,24 @@ fn reads_to_the_end_in_pieces(rt: HostRuntime) -> Result<(), Fail> {
 // In pieces of 1 byte the end is pull 6. After a fault the next call reads what is left.
 #[test]
 fn fails_at_each_pull(rt: HostRuntime) -> Result<(), Fail> {
-    let rests: [&[u8]; 6] = [b"hello", b"ello", b"llo", b"lo", b"o", b""];
-    let mut fail = 1;
-    for rest in rests {
+    let rows: [(u32, &[u8]); 6] = [
+        (1, b"hello"),
+        (2, b"ello"),
+        (3, b"llo"),
+        (4, b"lo"),
+        (5, b"o"),
+        (6, b""),
+    ];
+    for (fail, rest) in rows {
         let mut source = hello(rt.alloc(), 1, fail)?;
         let first = read_all(rt.alloc(), &mut source, 5);
         assert!(rt; matches!(first, Err(ReadError::Fault)), "pull {fail}");
         let second = read_all(rt.alloc(), &mut source, 5)?;
         assert_eq!(rt; second.as_slice(), rest, "after pull {fail}");
-        fail += 1;
     }
-    let mut source = hello(rt.alloc(), 1, fail)?;
+    let mut source = hello(rt.alloc(), 1, 7)?;
     let bytes = read_all(rt.alloc(), &mut source, 5)?;
-    assert_eq!(rt; bytes.as_slice(), b"hello".as_slice(), "pull {fail}");
+    assert_eq!(rt; bytes.as_slice(), b"hello".as_slice());
     Ok(())
 }
 

@@ -14,6 +14,7 @@ loop-filled-preserved g c =
     let pull = c.in-Got.ensures in
     record {
       within = omega (arith, pull.count);
-      gives = Gives-more s.left s.given _ _ _ _ _ _ _ before.gives before.within pull.kept pull.bytes pull.given (omega (arith, pull.count));
+      gives = Gives-more s.left s.given _ _ _ _ _ _ _ before.gives before.within pull.kept
+          pull.bytes pull.given (omega (arith, pull.count));
       later = omega arith;
     }
