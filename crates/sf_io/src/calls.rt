@@ -1,4 +1,4 @@
-ghost use Rattle.std.specs.Prelude.{◌≡◌, ◌↔◌, ◌+◌, ◌-◌, ◌^◌, ◌≤◌, min, IsTrue};
+ghost use Rattle.std.specs.Prelude.{◌≡◌, ◌↔◌, ◌≤◌, IsTrue};
 ghost use Rattle.sf_io.specs.Calls.{IsNextListed, one_call_more, one_fault_more};
 
 use std::marker::Model;
@@ -31,7 +31,7 @@ impl Calls {
     }
 
     /// Counts one call more, and says whether the list has its number.
-    pub fn is_next_listed(&mut self) -> bool
+    pub fn count_call(&mut self) -> bool
         ensures listed { IsTrue result ↔ IsNextListed self.old }
         ensures made { self.new ≡ one_call_more self.old }
     {
@@ -45,7 +45,7 @@ impl Calls {
     }
 
     /// Counts a fault.
-    pub fn raise_faults(&mut self)
+    pub fn count_fault(&mut self)
         ensures raised { self.new ≡ one_fault_more self.old }
         ensures later { self.old.faults ≤ self.new.faults }
     {

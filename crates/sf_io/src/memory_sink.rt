@@ -1,4 +1,4 @@
-ghost use Rattle.std.specs.Prelude.{◌≡◌, ◌↔◌, ◌⊎◌, ℕ, ◌+◌, ◌-◌, ◌^◌, ◌<◌, ◌≤◌, min, List, [], length, take, Option, Some, IsSome, OnOk, OnErr};
+ghost use Rattle.std.specs.Prelude.{◌≡◌, ◌↔◌, ◌⊎◌, ◌+◌, ◌<◌, ◌≤◌, min, [], length, take, Some, IsSome, OnOk, OnErr};
 ghost use Rattle.std.specs.Io.KnownBytes.{Appends};
 ghost use Rattle.sf_io.specs.Count.{Rose};
 ghost use Rattle.sf_io.specs.Push.{IfTook, pushed_count};
@@ -94,9 +94,9 @@ impl Sink for MemSink {
             IfTook result (λ n. n ≡ min most self.old.room) }
         ensures after { self.new ≡ sink_after self.old piece.now result }
     {
-        let is_listed = self.calls.is_next_listed();
+        let is_listed = self.calls.count_call();
         if is_listed || self.room == 0 {
-            self.calls.raise_faults();
+            self.calls.count_fault();
             return Push::Failed;
         }
         let count = self.piece.min(piece.len()).min(self.room);

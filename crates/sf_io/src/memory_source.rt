@@ -1,5 +1,5 @@
-ghost use Rattle.std.specs.Prelude.{◌≡◌, ◌≢◌, ◌↔◌, ℕ, ◌+◌, ◌-◌, ◌^◌, ◌<◌, ◌≤◌, min, List, [], length, take, drop, Option, Some, IsSome, IsTrue};
-ghost use Rattle.std.specs.Io.KnownBytes.{Consumes, IsAtEnd};
+ghost use Rattle.std.specs.Prelude.{◌≡◌, ◌≢◌, ◌↔◌, ◌<◌, ◌≤◌, min, [], length, take, Some, IsSome};
+ghost use Rattle.std.specs.Io.KnownBytes.{Consumes};
 ghost use Rattle.sf_io.specs.Count.{Rose, RoseBy};
 ghost use Rattle.sf_io.specs.Pull.{IfGot, pulled_count};
 ghost use Rattle.sf_io.specs.Calls.{IsNextListed};
@@ -79,8 +79,8 @@ impl Source for MemSource {
             IfGot result (λ n. n ≡ min most (length self.old.rest)) }
         ensures after { self.new ≡ source_after self.old result }
     {
-        if self.calls.is_next_listed() {
-            self.calls.raise_faults();
+        if self.calls.count_call() {
+            self.calls.count_fault();
             return Pull::Failed;
         }
         let rest = &self.bytes[self.at..];

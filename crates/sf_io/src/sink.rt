@@ -5,19 +5,21 @@ ghost use Rattle.sf_io.specs.Push.{IfTook, pushed_count};
 
 use crate::errors::WriteFault;
 
-/// What one push did: it took so many bytes, or failed.
+/// What one push did.
 #[derive(Clone, Copy, Debug, PartialEq, Eq, Hash)]
 pub enum Push {
+    /// It took so many bytes, at least one.
     Took(usize),
+    /// It took none, and the sink counted a fault.
     Failed,
 }
 
-/// Where bytes go.
+/// Where bytes go. The count of faults stays at `u64::MAX` once it is there.
 pub trait Sink {
     // The bytes that were written so far, where the sink tells them.
     ghost written: { Self → Option (List ℕ) };
 
-    // How many calls failed.
+    // How many faults there were. It never falls.
     ghost faults: { Self → ℕ };
 
     /// Appends bytes from the front of the piece.

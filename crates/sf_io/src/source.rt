@@ -1,4 +1,4 @@
-ghost use Rattle.std.specs.Prelude.{◌≡◌, ◌≢◌, ℕ, ◌+◌, ◌-◌, ◌^◌, ◌<◌, ◌≤◌, List, [], length, take, drop, Option, IsSome, IfOk, OnOk, IsErrOf, IfSome};
+ghost use Rattle.std.specs.Prelude.{◌≡◌, ◌≢◌, ℕ, ◌+◌, ◌<◌, ◌≤◌, List, [], length, take, drop, Option, IsSome, IfOk, OnOk, IsErrOf, IfSome};
 ghost use Rattle.std.specs.Io.KnownBytes.{Consumes, IsAtEnd};
 ghost use Rattle.sf_io.specs.Count.{Rose, RoseBy, RoseMore};
 ghost use Rattle.sf_io.specs.Pull.{IfGot, pulled_count, Gives};
@@ -6,23 +6,26 @@ ghost use Rattle.sf_io.specs.Pull.{IfGot, pulled_count, Gives};
 use crate::errors::ReadError;
 use std::alloc::Global;
 
-/// What one pull gave: so many bytes, the end, or a failure.
+/// What one pull gave.
 #[derive(Clone, Copy, Debug, PartialEq, Eq, Hash)]
 pub enum Pull {
+    /// So many bytes, at least one.
     Got(usize),
+    /// None, since none is left.
     End,
+    /// None, and the source counted a fault.
     Failed,
 }
 
-/// Where bytes come from.
+/// Where bytes come from. A count of faults or of bytes given stays at `u64::MAX` once it is there.
 pub trait Source {
     // The bytes that are left, where the source tells them.
     ghost left: { Self → Option (List ℕ) };
 
-    // How many calls failed.
+    // How many faults there were. It never falls.
     ghost faults: { Self → ℕ };
 
-    // How many bytes were given.
+    // How many bytes were given. Every source tells it.
     ghost given: { Self → ℕ };
 
     /// Puts the next bytes at the front of the room.
@@ -34,8 +37,7 @@ pub trait Source {
         ensures told { IsSome (left self.old) → IsSome (left self.new) }
         ensures given { RoseBy (pulled_count result) (given self.old) (given self.new) }
 
-        // Where the bytes are told, the end comes exactly where none is left and the call doesn't
-        // fail.
+        // The end comes, where the bytes are told, exactly where none is left and no call fails.
         ensures end { result ≡ Pull.End → IsAtEnd (left self.new) }
         ensures none_left { left self.old ≡ Some [] → result ≢ Pull.Failed → result ≡ Pull.End }
 

@@ -1,8 +1,4 @@
-ghost use Rattle.std.specs.Prelude.{◌≡◌, ◌≢◌, ℕ, ◌<◌, ◌≤◌, List, [], length, take, Option, Some, IsSome};
-ghost use Rattle.std.specs.Io.KnownBytes.{Appends, Consumes, IsAtEnd};
-ghost use Rattle.sf_io.specs.Count.{Rose, RoseBy};
-ghost use Rattle.sf_io.specs.Pull.{IfGot, pulled_count};
-ghost use Rattle.sf_io.specs.Push.{IfTook, pushed_count};
+ghost use Rattle.std.specs.Prelude.{◌≡◌};
 
 use crate::sink::{Push, Sink};
 use crate::source::{Pull, Source};
