@@ -1,1 +1,4 @@
+pub mod Lists
+pub mod Descending
+pub mod MonomialEquality
 pub mod Orders

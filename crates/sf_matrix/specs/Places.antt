@@ -1,0 +1,13 @@
+-- Where a term stands, and the term, written by its generator, its monomial and its coefficient.
+use Rattle.std.specs.Prelude.{ℕ}
+use Rattle.sf_algebra.specs.Monomials.{Monomial}
+use Rattle.sf_algebra.specs.Terms.{Term}
+use Rattle.sf_algebra.specs.Vectors.{Place}
+
+-- the place of a monomial at a generator
+abbrev pub place_of : ℕ → Monomial → Place
+place_of position a = record { position = position; monomial = a }
+
+-- the term with this coefficient there
+abbrev pub term_of : ℕ → Monomial → ℕ → Term Place
+term_of position a c = record { at = place_of position a; coefficient = c }

@@ -1,0 +1,21 @@
+//! The values of the algebra as the program keeps them: lists, names, monomials, free modules, vectors and matrices.
+//!
+//! Contracts see each of them as the plain data of `sf_algebra`.
+#![tactic(auto)]
+
+mod free;
+mod list;
+mod matrix;
+mod monomial;
+mod name;
+mod vector;
+
+pub use free::Free;
+pub use list::List;
+pub use matrix::Matrix;
+pub use monomial::Mono;
+pub use name::Name;
+pub use vector::Vector;
+
+#[cfg(test)]
+mod tests;

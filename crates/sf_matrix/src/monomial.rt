@@ -1,0 +1,133 @@
+ghost use Rattle.std.specs.Prelude.{◌≡◌, ◌<◌, ◌≤◌, ◌↔◌, IsSome, IfSome, sum, slice_index, refl};
+ghost use Rattle.std.specs.Cmp.{partial_order_from_agreeing_total};
+ghost use Rattle.std.specs.Ordering.{as_partial_cmp};
+ghost use Rattle.sf_algebra.specs.Monomials.{VARIABLES, one, exponents, from_exponents, exponent_sum, monomial_cmp};
+ghost use Rattle.sf_algebra.proofs.MonomialEquality.{same_exponents-monomial_cmp};
+ghost use Rattle.sf_algebra.proofs.Orders.{monomial_cmp_total};
+
+use std::cmp::Ordering;
+use std::marker::Model;
+
+/// A monomial in six variables, whose exponents have a sum of at most 65,535. Contracts see it as its six exponents.
+///
+/// In a ring of fewer variables the exponents past its variables are 0. The order is the degree reverse lexicographic
+/// one (Cox, Little, O'Shea, "Ideals, Varieties, and Algorithms", chapter 2, section 2).
+#[derive(Clone, Copy, Debug, PartialEq, Eq, Hash)]
+pub struct Mono {
+    e1: u16,
+    e2: u16,
+    e3: u16,
+    e4: u16,
+    e5: u16,
+    e6: u16,
+}
+
+impl Model for Mono {
+    ghost use Rattle.std.specs.Prelude.{◌+◌, ◌≤◌};
+    ghost use Rattle.sf_algebra.specs.Monomials.{Monomial};
+
+    ghost Value = { Monomial };
+
+    ghost view = { λ a. record { e1 = a.e1; e2 = a.e2; e3 = a.e3; e4 = a.e4; e5 = a.e5; e6 = a.e6 } };
+
+    ghost invariant = { λ a. a.e1 + a.e2 + a.e3 + a.e4 + a.e5 + a.e6 ≤ 65535 };
+
+    ghost inverse = { λ a. record { e1 = a.e1; e2 = a.e2; e3 = a.e3; e4 = a.e4; e5 = a.e5; e6 = a.e6 } };
+}
+
+impl Mono {
+    /// The monomial 1.
+    pub fn one() -> Mono
+        ensures one { result ≡ one }
+    {
+        Mono {
+            e1: 0,
+            e2: 0,
+            e3: 0,
+            e4: 0,
+            e5: 0,
+            e6: 0,
+        }
+    }
+
+    /// The monomial with these exponents, or `None` exactly where their sum is above 65,535.
+    pub fn from_exponents(exponents: [u16; 6]) -> Option<Mono>
+        ensures fits { IsSome result ↔ (sum exponents ≤ 65535) }
+        ensures value { IfSome result (λ a. a ≡ from_exponents exponents) }
+    {
+        let [e1, e2, e3, e4, e5, e6] = exponents;
+        let total = e1 as u32 + e2 as u32 + e3 as u32 + e4 as u32 + e5 as u32 + e6 as u32;
+        if total <= 65535 {
+            Some(Mono {
+                e1,
+                e2,
+                e3,
+                e4,
+                e5,
+                e6,
+            })
+        } else {
+            None
+        }
+    }
+
+    /// The exponent of the variable at place `i`, counted from 0.
+    pub fn exponent(self, i: usize) -> u16
+        requires { i < VARIABLES }
+        ensures exponent { result ≡ slice_index (exponents self) i }
+    {
+        match i {
+            0 => self.e1,
+            1 => self.e2,
+            2 => self.e3,
+            3 => self.e4,
+            4 => self.e5,
+            _ => self.e6,
+        }
+    }
+
+    /// The sum of the exponents.
+    pub fn sum(self) -> u32
+        ensures sum { result ≡ exponent_sum self }
+        ensures bounded { result ≤ 65535 }
+    {
+        self.e1 as u32
+            + self.e2 as u32
+            + self.e3 as u32
+            + self.e4 as u32
+            + self.e5 as u32
+            + self.e6 as u32
+    }
+}
+
+impl Ord for Mono {
+    ghost cmp = { monomial_cmp };
+
+    ghost total = { monomial_cmp_total };
+
+    ghost matches_partial_cmp = { λ a b. refl };
+
+    ghost matches_eq = { same_exponents-monomial_cmp };
+
+    #[tactic(auto, using(crate::proofs::OrderingLemmas::ordering_then_assoc))]
+    fn cmp(&self, other: &Mono) -> Ordering {
+        self.sum()
+            .cmp(&other.sum())
+            .then(other.e6.cmp(&self.e6))
+            .then(other.e5.cmp(&self.e5))
+            .then(other.e4.cmp(&self.e4))
+            .then(other.e3.cmp(&self.e3))
+            .then(other.e2.cmp(&self.e2))
+            .then(other.e1.cmp(&self.e1))
+    }
+}
+
+impl PartialOrd for Mono {
+    ghost partial_cmp = { as_partial_cmp monomial_cmp };
+
+    ghost laws = { partial_order_from_agreeing_total monomial_cmp monomial_cmp_total (λ a b. refl) same_exponents-monomial_cmp };
+
+    fn partial_cmp(&self, other: &Mono) -> Option<Ordering> {
+        Some(self.cmp(other))
+    }
+}
