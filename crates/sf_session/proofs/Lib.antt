@@ -1,0 +1,12 @@
+pub mod Cuts
+pub mod Digits
+pub mod Names
+pub mod Places
+pub mod VariableRows
+pub mod Modules
+pub mod SoFar
+pub mod OneReply
+pub mod OneOutput
+pub mod JoinedItems
+pub mod PrintedTerms
+pub mod PrintedRows

@@ -1,0 +1,50 @@
+-- A line has exactly one reply, case by case.
+use Rattle.std.proofs.Common.{◌≡◌, ℕ, List, [], Bool, true, false, Option, Some, None, refl}
+use Rattle.std.specs.Prelude.{MatchOption}
+use Rattle.std.specs.Bool.{MatchBool}
+use Rattle.sf_session.specs.State.{State, ring_of, opens, enters, module_named, defines}
+use Rattle.sf_session.specs.Grammar.{line_of}
+use Rattle.sf_session.specs.Replies.{Gives, Carried, Answered, Step, syntax_text, later_text}
+use Rattle.sf_session.specs.declared.command.Command.{Command}
+use Rattle.sf_session.specs.declared.command.Command.TheVariants.{Spectral, Ring, Module, Show, Later}
+use Rattle.sf_session.specs.declared.command.Line.{Line}
+use Rattle.sf_session.specs.declared.command.Line.TheVariants.{Silent, Malformed, Read}
+
+-- a relation between a reply and a state that exactly one pair meets
+pub record IsOne (P : List ℕ → State → Type 0) : Type 0 where
+  pub reply : List ℕ
+  pub state : State
+  pub met : P reply state
+  pub only : (other : List ℕ) (new : State) → P other new → (other ≡ reply) × (new ≡ state)
+
+pub IsOne-Gives : (text : List ℕ) (after : State) → IsOne (Gives text after)
+IsOne-Gives text after = record { reply = text; state = after; met = (refl, refl); only = λ other new h. h }
+
+pub IsOne-MatchBool : (b : Bool) {P Q : List ℕ → State → Type 0} → IsOne P → IsOne Q → IsOne (λ reply new. MatchBool b (P reply new) (Q reply new))
+IsOne-MatchBool true p q = p
+IsOne-MatchBool false p q = q
+
+pub IsOne-MatchOption : {X : Type 0} (o : Option X) {P : List ℕ → State → Type 0} {Q : X → List ℕ → State → Type 0} → IsOne P → ((x : X) → IsOne (Q x))
+    → IsOne (λ reply new. MatchOption o (P reply new) (λ x. Q x reply new))
+IsOne-MatchOption None p q = p
+IsOne-MatchOption (Some x) p q = q x
+
+refused : (old : State) → IsOne (Gives later_text old)
+refused old = IsOne-Gives later_text old
+
+pub IsOne-Carried : (command : Command) (old : State) → IsOne (Carried command old)
+IsOne-Carried (Spectral version) old = IsOne-MatchBool (opens old.heads version) (IsOne-Gives _ _) (refused old)
+IsOne-Carried (Ring modulus names) old = IsOne-MatchBool (enters old.heads modulus names) (IsOne-Gives _ _) (refused old)
+IsOne-Carried (Module name degree variables) old =
+    IsOne-MatchOption (ring_of old.heads) (refused old) (λ r. IsOne-MatchBool (defines r old.modules name degree variables) (IsOne-Gives _ _) (refused old))
+IsOne-Carried (Show name) old =
+    IsOne-MatchOption (ring_of old.heads) (refused old) (λ r. IsOne-MatchOption (module_named name old.modules) (refused old) (λ relations. IsOne-Gives _ _))
+IsOne-Carried Later old = refused old
+
+pub IsOne-Answered : (line : Line) (old : State) → IsOne (Answered line old)
+IsOne-Answered Silent old = IsOne-Gives [] old
+IsOne-Answered Malformed old = IsOne-Gives syntax_text old
+IsOne-Answered (Read command) old = IsOne-Carried command old
+
+pub IsOne-Step : (old : State) (line : List ℕ) → IsOne (Step old line)
+IsOne-Step old line = IsOne-Answered (line_of line) old

@@ -1,0 +1,12 @@
+use Rattle.std.proofs.Common.{length, ◌≤◌}
+use Rattle.sf_session.proofs.SoFar.{SoFar}
+use Rattle.sf_session.proofs.execution.answer_all.Given as goal
+
+abbrev pub invariant-loop-line : goal.invariant-loop-line
+invariant-loop-line g l = record {
+  so_far : SoFar (g.K.Sink.written l.initial.sink) (g.K.Sink.written l.sink) l.script l.rest l.session;
+  later : g.K.Sink.faults l.initial.sink ≤ g.K.Sink.faults l.sink;
+}
+
+abbrev pub decreases-loop-line : goal.decreases-loop-line
+decreases-loop-line g l = length l.rest

@@ -1,0 +1,18 @@
+//! Laws of the replies and of the output. The functions do nothing: their contracts are the laws.
+
+ghost use Rattle.sf_session.specs.Laws.{HasOneReply, HasOneOutput, FrontBeginsOutput};
+
+/// After any lines, each line has exactly one reply.
+pub fn one_reply()
+    ensures { HasOneReply }
+{}
+
+/// Each script has exactly one output.
+pub fn one_output()
+    ensures { HasOneOutput }
+{}
+
+/// What was written when the sink failed or memory was wanting is a beginning of the output.
+pub fn front_of_output()
+    ensures { FrontBeginsOutput }
+{}

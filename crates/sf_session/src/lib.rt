@@ -1,0 +1,24 @@
+//! A session answers the lines of a script one by one, and `run` answers a whole script.
+#![tactic(auto)]
+
+mod command;
+mod execution;
+mod headings;
+mod heads;
+mod laws;
+mod printing;
+mod reading;
+mod relations;
+mod session;
+mod strategy;
+#[cfg(test)]
+mod tests;
+mod tokens;
+mod words;
+
+pub use command::{Command, Line};
+pub use execution::{Status, run};
+pub use heads::{Heads, Ring};
+pub use laws::{front_of_output, one_output, one_reply};
+pub use session::Session;
+pub use strategy::{FirstStrategy, Strategy};

@@ -1,0 +1,276 @@
+ghost use Rattle.std.specs.Prelude.{◌≡◌, [], ◌∷◌, ◌&&◌, IsTrue, IfOk, SomeIff, MatchOption, option_copied, map};
+ghost use Rattle.std.specs.List.{list_all, list_any};
+ghost use Rattle.std.specs.Option.{option_map};
+ghost use Rattle.std.specs.Str.{bytes_eq};
+ghost use Rattle.sf_algebra.specs.Printing.{semicolon};
+ghost use Rattle.sf_session.specs.Words.{words, parts, is_space, is_name};
+ghost use Rattle.sf_session.specs.Grammar.{later_words, is_later_word, is_silent, command_of, line_of, only, spectral_command, ring_command, show_command, module_command, module_parts, thin_command, after, is_bracketed, inner, split_rows};
+
+use crate::command::{Command, Line};
+use crate::tokens::{is_name, read_integer, read_number};
+use crate::words::{begins_with, next_part, next_word};
+use sf_field::OutOfMemory;
+use sf_matrix::{List, Name};
+use std::alloc::Global;
+use std::str;
+
+/// The command words that the language has and that aren't built yet.
+const LATER_WORDS: [&[u8]; 32] = [
+    b"limit",
+    b"map",
+    b"complex",
+    b"bicomplex",
+    b"at",
+    b"dh",
+    b"dv",
+    b"seal",
+    b"let",
+    b"basis",
+    b"syz",
+    b"member",
+    b"lift",
+    b"kernel",
+    b"image",
+    b"coker",
+    b"resolve",
+    b"hom",
+    b"tensor",
+    b"ext",
+    b"tor",
+    b"page",
+    b"diff",
+    b"next",
+    b"total",
+    b"filtration",
+    b"purity",
+    b"witness",
+    b"work",
+    b"balance",
+    b"connect",
+    b"hyper",
+];
+
+/// What a line of a script is.
+pub fn read_line(alloc: Global, line: &[u8]) -> Result<Line, OutOfMemory>
+    ensures { IfOk result (λ r. r ≡ line_of line.now) }
+{
+    if is_silent(line) {
+        return Ok(Line::Silent);
+    }
+    if begins_with(line, b' ') {
+        return Ok(Line::Malformed);
+    }
+    match read_command(alloc, line)? {
+        None => Ok(Line::Malformed),
+        Some(command) => Ok(Line::Read(command)),
+    }
+}
+
+fn is_silent(line: &[u8]) -> bool
+    ensures { result ≡ is_silent line.now }
+{
+    begins_with(line, b'#') || holds_only_spaces(line)
+}
+
+fn holds_only_spaces(line: &[u8]) -> bool
+    ensures { result ≡ list_all is_space line.now }
+{
+    line.iter().all(|byte| *byte == b' ')
+}
+
+fn read_command(alloc: Global, line: &[u8]) -> Result<Option<Command>, OutOfMemory>
+    ensures { IfOk result (λ r. r ≡ command_of (words line.now)) }
+{
+    let Some((word, arguments)) = next_word(line) else {
+        return Ok(None);
+    };
+    if is_later_word(word) {
+        return Ok(Some(Command::Later));
+    }
+    if word == b"spectral".as_slice() {
+        return Ok(read_spectral(arguments));
+    }
+    if word == b"ring".as_slice() {
+        return read_ring(alloc, arguments);
+    }
+    if word == b"module".as_slice() {
+        return Ok(Some(read_module(alloc, arguments)?));
+    }
+    if word == b"show".as_slice() {
+        return read_show(alloc, arguments);
+    }
+    Ok(None)
+}
+
+fn is_later_word(word: &[u8]) -> bool
+    ensures { result ≡ is_later_word word.now }
+{
+    begins_with(word, b'@') || is_unbuilt(word)
+}
+
+fn is_unbuilt(word: &[u8]) -> bool
+    ensures { result ≡ list_any (bytes_eq word.now) later_words }
+{
+    is_among(word, &LATER_WORDS)
+}
+
+fn is_among(word: &[u8], words: &[&[u8]]) -> bool
+    ensures { result ≡ list_any (bytes_eq word.now) (map (λ w. w.now) words.now) }
+{
+    for other in words {
+        if word == *other {
+            return true;
+        }
+    }
+    false
+}
+
+fn read_spectral(arguments: &[u8]) -> Option<Command>
+    ensures { result ≡ spectral_command (words arguments.now) }
+{
+    let version = read_integer(only_word(arguments)?)?;
+    Some(Command::Spectral { version })
+}
+
+fn read_ring(alloc: Global, arguments: &[u8]) -> Result<Option<Command>, OutOfMemory>
+    ensures { IfOk result (λ r. r ≡ ring_command (words arguments.now)) }
+{
+    let Some((number, rest)) = next_word(arguments) else {
+        return Ok(None);
+    };
+    let Some(modulus) = read_number(number) else {
+        return Ok(None);
+    };
+    match read_names(alloc, rest)? {
+        Some(names) if names.len() > 0 => Ok(Some(Command::Ring { modulus, names })),
+        _ => Ok(None),
+    }
+}
+
+fn read_show(alloc: Global, arguments: &[u8]) -> Result<Option<Command>, OutOfMemory>
+    ensures { IfOk result (λ r. r ≡ show_command (words arguments.now)) }
+{
+    match only_word(arguments) {
+        Some(word) if is_name(word) => {
+            let name = make_name(alloc, word)?;
+            Ok(Some(Command::Show { name }))
+        }
+        _ => Ok(None),
+    }
+}
+
+fn read_module(alloc: Global, arguments: &[u8]) -> Result<Command, OutOfMemory>
+    ensures { IfOk result (λ command. command ≡ module_command (words arguments.now)) }
+{
+    match module_parts(arguments) {
+        None => Ok(Command::Later),
+        Some((name, degree, text)) => read_thin(alloc, name, degree, text),
+    }
+}
+
+/// The name, the degree and the relations of a `module` line with one generator.
+fn module_parts(arguments: &[u8]) -> Option<(&[u8], &[u8], &[u8])>
+    ensures { option_map (λ p. (p.0.now, p.1.now, p.2.now)) result ≡ module_parts (words arguments.now) }
+{
+    let (name, rest) = next_word(arguments)?;
+    let rest = after_word(rest, b"degrees")?;
+    let (degree, rest) = next_word(rest)?;
+    let rest = after_word(rest, b"relations")?;
+    let text = only_word(rest)?;
+    Some((name, degree, text))
+}
+
+fn after_word<'a>(line: &'a [u8], word: &[u8]) -> Option<&'a [u8]>
+    ensures { option_map (λ rest. words rest.now) result ≡ after word.now (words line.now) }
+{
+    let (first, rest) = next_word(line)?;
+    if first == word { Some(rest) } else { None }
+}
+
+fn read_thin(alloc: Global, name: &[u8], degree: &[u8], text: &[u8]) -> Result<Command, OutOfMemory>
+    ensures { IfOk result (λ command. command ≡ thin_command (name.now, degree.now, text.now)) }
+{
+    if !is_name(name) {
+        return Ok(Command::Later);
+    }
+    let Some(degree) = read_integer(degree) else {
+        return Ok(Command::Later);
+    };
+    let name = make_name(alloc, name)?;
+    match read_rows(alloc, text)? {
+        None => Ok(Command::Later),
+        Some(variables) => Ok(Command::Module {
+            name,
+            degree,
+            variables,
+        }),
+    }
+}
+
+/// The variables of relations each of which is a variable.
+fn read_rows(alloc: Global, text: &[u8]) -> Result<Option<List<Name>>, OutOfMemory>
+    ensures { IfOk result (λ r.
+        SomeIff r (IsTrue (is_bracketed text.now && list_all is_name (split_rows (inner text.now)))) (split_rows (inner text.now))) }
+{
+    if text.len() < 2 || text[0] != b'[' || text[text.len() - 1] != b']' {
+        return Ok(None);
+    }
+    let (_, opened) = text.split_at(1);
+    let (rows, _) = opened.split_at(text.len() - 2);
+    if rows.is_empty() {
+        return Ok(Some(List::new(alloc)));
+    }
+    split_names(alloc, rows)
+}
+
+fn split_names(alloc: Global, rows: &[u8]) -> Result<Option<List<Name>>, OutOfMemory>
+    ensures { IfOk result (λ r. SomeIff r (IsTrue (list_all is_name (parts semicolon rows.now))) (parts semicolon rows.now)) }
+{
+    let mut names = List::new(alloc);
+    let mut left = Some(rows);
+    while let Some(text) = left {
+        let (row, others) = next_part(text, b';');
+        if !is_name(row) {
+            return Ok(None);
+        }
+        names.push(make_name(alloc, row)?)?;
+        left = others;
+    }
+    Ok(Some(names))
+}
+
+/// The names of a list of words, where all are names.
+fn read_names(alloc: Global, line: &[u8]) -> Result<Option<List<Name>>, OutOfMemory>
+    ensures { IfOk result (λ r. SomeIff r (IsTrue (list_all is_name (words line.now))) (words line.now)) }
+{
+    let mut names = List::new(alloc);
+    let mut rest = line;
+    while let Some((word, others)) = next_word(rest) {
+        if !is_name(word) {
+            return Ok(None);
+        }
+        names.push(make_name(alloc, word)?)?;
+        rest = others;
+    }
+    Ok(Some(names))
+}
+
+fn make_name(alloc: Global, word: &[u8]) -> Result<Name, OutOfMemory>
+    requires { IsTrue (is_name word.now) }
+    ensures { IfOk result (λ name. name ≡ word.now) }
+{
+    match str::from_utf8(word) {
+        Ok(text) => Name::from_text(alloc, text),
+        Err(_) => unreachable!(),
+    }
+}
+
+fn only_word(arguments: &[u8]) -> Option<&[u8]>
+    ensures { option_copied result ≡ only (words arguments.now) }
+{
+    let (word, rest) = next_word(arguments)?;
+    match next_word(rest) {
+        None => Some(word),
+        Some(_) => None,
+    }
+}
