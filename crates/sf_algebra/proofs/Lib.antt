@@ -2,3 +2,10 @@ pub mod Lists
 pub mod Descending
 pub mod MonomialEquality
 pub mod Orders
+pub mod Residues
+pub mod Totals
+pub mod Normal
+pub mod Coefficients
+pub mod Sums
+pub mod Merge
+pub mod Slices
