@@ -5,3 +5,10 @@ pub mod Orders
 pub mod Drops
 pub mod Factors
 pub mod Entries
+pub mod Residues
+pub mod Totals
+pub mod Normal
+pub mod Coefficients
+pub mod Sums
+pub mod Merge
+pub mod Slices

@@ -1,12 +1,25 @@
 -- The orders of monomials and of places are linear.
-use Rattle.std.proofs.Common.{◌≡◌, ℕ, sym, arith}
+use Rattle.std.proofs.Common.{◌≡◌, ℕ, refl, sym, arith}
 use Rattle.std.specs.declared.cmp.Ordering.{Ordering}
 use Rattle.std.specs.declared.cmp.Ordering.TheVariants.{Less, Equal, Greater}
-use Rattle.std.specs.Ordering.{nat_cmp, ordering_then}
+use Rattle.std.specs.Ordering.{match_ordering, nat_cmp, ordering_then}
 use Rattle.std.proofs.lemmas.Bool.Decides.{nat_tests}
 use Rattle.std.specs.Cmp.{IsTotalOrder, then_total, on_total, back_total, nat_cmp_total}
 use Rattle.sf_algebra.specs.Monomials.{Monomial, monomial_cmp, exponent_sum}
+use Rattle.sf_algebra.specs.Orders.{IsLinearOrder}
 use Rattle.sf_algebra.specs.Vectors.{Place, place_cmp}
+
+-- what follows from each of the three orderings holds
+pub ordering_cases : {A : Type 0} (o : Ordering) → (o ≡ Less → A) → (o ≡ Equal → A) → (o ≡ Greater → A) → A
+ordering_cases Less less equal greater = less refl
+ordering_cases Equal less equal greater = equal refl
+ordering_cases Greater less equal greater = greater refl
+
+-- a fact of what an ordering chooses, by what the ordering is
+pub match_ordering_cases : {A : Type 0} (o : Ordering) (a b c : A) (P : A → Type 0) → (o ≡ Less → P a) → (o ≡ Equal → P b) → (o ≡ Greater → P c) → P (match_ordering o a b c)
+match_ordering_cases Less a b c P less equal greater = less refl
+match_ordering_cases Equal a b c P less equal greater = equal refl
+match_ordering_cases Greater a b c P less equal greater = greater refl
 
 -- where one order and then another find nothing between two values, neither does
 pub ordering_then-Equal : (o p : Ordering) → ordering_then o p ≡ Equal → (o ≡ Equal) × (p ≡ Equal)
@@ -43,6 +56,9 @@ monomial_cmp-Equal a b e =
     let p1 = nat_cmp-Equal _ _ g2.1 in
     λ i. record { e1 = sym p1 i; e2 = sym p2 i; e3 = sym p3 i; e4 = sym p4 i; e5 = sym p5 i; e6 = sym p6 i }
 
+pub monomial_cmp_linear : IsLinearOrder monomial_cmp
+monomial_cmp_linear = record { total = monomial_cmp_total; apart = monomial_cmp-Equal }
+
 pub place_cmp_total : IsTotalOrder place_cmp
 place_cmp_total =
     then_total (back_total (on_total (λ (a : Place). a.position) nat_cmp_total)) (on_total (λ (a : Place). a.monomial) monomial_cmp_total)
@@ -53,3 +69,6 @@ place_cmp-Equal a b e =
     let positions = nat_cmp-Equal _ _ f.0 in
     let monomials = monomial_cmp-Equal _ _ f.1 in
     λ i. record { position = sym positions i; monomial = monomials i }
+
+pub place_cmp_linear : IsLinearOrder place_cmp
+place_cmp_linear = record { total = place_cmp_total; apart = place_cmp-Equal }

@@ -2,6 +2,8 @@ pub mod Residues
 pub mod Monomials
 pub mod Orders
 pub mod Terms
+pub mod Sums
+pub mod SumLaws
 pub mod Vectors
 pub mod Matrices
 pub mod Printing

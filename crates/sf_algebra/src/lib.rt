@@ -5,5 +5,7 @@
 #![tactic(auto)]
 
 mod order;
+mod sum;
 
 pub use order::{monomial_order, place_order};
+pub use sum::{polynomial_sums, vector_sums};

@@ -8,6 +8,7 @@ mod list;
 mod matrix;
 mod monomial;
 mod name;
+mod sums;
 mod vector;
 
 pub use free::Free;
@@ -15,7 +16,8 @@ pub use list::List;
 pub use matrix::Matrix;
 pub use monomial::Mono;
 pub use name::Name;
-pub use vector::Vector;
+pub use sums::{add_terms, sum_of_terms};
+pub use vector::{Term, Vector};
 
 #[cfg(test)]
 mod tests;

@@ -12,10 +12,10 @@ use std::marker::Model;
 
 /// A coefficient, and where it stands: at a generator, counted from 0, and a monomial.
 #[derive(Clone, Copy, Debug, PartialEq, Eq, Hash)]
-struct Term {
-    position: u64,
-    monomial: Mono,
-    coefficient: u32,
+pub struct Term {
+    pub position: u64,
+    pub monomial: Mono,
+    pub coefficient: u32,
 }
 
 impl Model for Term {
@@ -35,8 +35,8 @@ impl Model for Term {
 /// at one generator the monomials decide.
 #[derive(Debug, Drop)]
 pub struct Vector {
-    degree: i32,
-    terms: Vec<Term>,
+    pub(crate) degree: i32,
+    pub(crate) terms: Vec<Term>,
 }
 
 impl Model for Vector {

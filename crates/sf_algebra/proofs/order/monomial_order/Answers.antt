@@ -1,5 +1,5 @@
-use Rattle.sf_algebra.proofs.Orders.{monomial_cmp_total, monomial_cmp-Equal}
+use Rattle.sf_algebra.proofs.Orders.{monomial_cmp_linear}
 use Rattle.sf_algebra.proofs.order.monomial_order.Goals as goal
 
 pub returns : goal.returns
-returns c = record { total = monomial_cmp_total; apart = monomial_cmp-Equal }
+returns c = monomial_cmp_linear

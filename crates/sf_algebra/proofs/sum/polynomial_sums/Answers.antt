@@ -1,0 +1,15 @@
+use Rattle.sf_algebra.specs.Monomials.{monomial_cmp}
+use Rattle.sf_algebra.proofs.Coefficients.{coefficient_at-normal, same_from_coefficients}
+use Rattle.sf_algebra.proofs.Normal.{IsCanonical-normal}
+use Rattle.sf_algebra.proofs.Orders.{monomial_cmp_linear}
+use Rattle.sf_algebra.proofs.Sums.{normal-IsPermutation, normal-append}
+use Rattle.sf_algebra.proofs.sum.polynomial_sums.Goals as goal
+
+pub returns : goal.returns
+returns c = record {
+  canonical = λ p positive. IsCanonical-normal monomial_cmp monomial_cmp_linear p positive;
+  coefficients = λ p ts k. coefficient_at-normal monomial_cmp monomial_cmp_linear p k ts;
+  unique = λ p positive. same_from_coefficients monomial_cmp monomial_cmp_linear p positive;
+  any_order = λ p positive. normal-IsPermutation monomial_cmp monomial_cmp_linear p positive;
+  parts = λ p positive. normal-append monomial_cmp monomial_cmp_linear p positive;
+}

@@ -1,0 +1,15 @@
+use Rattle.sf_algebra.specs.Vectors.{place_cmp}
+use Rattle.sf_algebra.proofs.Coefficients.{coefficient_at-normal, same_from_coefficients}
+use Rattle.sf_algebra.proofs.Normal.{IsCanonical-normal}
+use Rattle.sf_algebra.proofs.Orders.{place_cmp_linear}
+use Rattle.sf_algebra.proofs.Sums.{normal-IsPermutation, normal-append}
+use Rattle.sf_algebra.proofs.sum.vector_sums.Goals as goal
+
+pub returns : goal.returns
+returns c = record {
+  canonical = λ p positive. IsCanonical-normal place_cmp place_cmp_linear p positive;
+  coefficients = λ p ts k. coefficient_at-normal place_cmp place_cmp_linear p k ts;
+  unique = λ p positive. same_from_coefficients place_cmp place_cmp_linear p positive;
+  any_order = λ p positive. normal-IsPermutation place_cmp place_cmp_linear p positive;
+  parts = λ p positive. normal-append place_cmp place_cmp_linear p positive;
+}
