@@ -80,7 +80,7 @@ pub fn sum_of_terms(
     match terms {
         [] => Ok(Vec::new(alloc)),
         [t] => {
-            let mut sum = Vec::new(alloc);
+            let mut sum = Vec::with_capacity(alloc, 1)?;
             let coefficient = t.coefficient % p;
             push_nonzero(&mut sum, Term { coefficient, ..*t })?;
             Ok(sum)

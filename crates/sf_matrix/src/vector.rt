@@ -63,6 +63,15 @@ impl Vector {
         }
     }
 
+    /// The vector of this degree with these terms, the greatest first and none with the coefficient 0.
+    pub fn from_canonical(degree: i32, terms: Vec<Term>) -> Vector
+        requires descending { IsDescending place_cmp terms.items }
+        requires nonzero { AllByRecursion (λ t. 0 < t.coefficient) terms.items }
+        ensures vector { result ≡ record { degree = degree; terms = terms.items } }
+    {
+        Vector { degree, terms }
+    }
+
     /// Adds a last term: the coefficient `c` at the generator `position` and the monomial `a`.
     pub fn push(&mut self, position: u64, a: Mono, c: u32) -> Result<(), OutOfMemory>
         requires nonzero { 0 < c }

@@ -4,10 +4,11 @@ use Rattle.std.specs.List.{slice_split, position_or_len, prefix_len, filter}
 use Rattle.std.specs.Str.Lines.{lines_of_parts, strip_carriage_return}
 use Rattle.std.proofs.lemmas.Bool.{ltb-true, ltb-false, not-true, not-false}
 use Rattle.std.proofs.lemmas.List.Splits.{slice_split_first, slice_split_none, length-slice_split, slice_split-cons_yes}
-use Rattle.std.proofs.lemmas.List.Sums.{prefix_len_passes, prefix_len_stops}
+use Rattle.std.proofs.lemmas.List.Sums.{prefix_len-le-length, prefix_len_passes, prefix_len_stops}
 use Rattle.std.proofs.lemmas.Bool.Decides.{nat_tests}
+use Rattle.std.proofs.Math.Nat.{le_antisymm}
 use Rattle.std.proofs.Math.Seq.{take-length, drop-length}
-use Rattle.sf_session.specs.Words.{script_lines, words, parts, is_space, is_filled}
+use Rattle.sf_session.specs.Words.{script_lines, words, parts, before, is_space, is_filled}
 
 cond-Some : {X : Type 0} (t : Bool) (a i : X) → cond t (Some a) None ≡ Some i → (t ≡ true) × (a ≡ i)
 cond-Some true a i e = (refl, cc)
@@ -46,7 +47,14 @@ parts-Some separator text i e = slice_split-Some (λ b. b == separator) text i 0
 pub parts-None : (separator : ℕ) (text : List ℕ) → position (λ b. b == separator) text ≡ None → parts separator text ≡ text ∷ []
 parts-None separator text e = slice_split-None (λ b. b == separator) text e
 
-pub ruleset parts_rules = (parts-Some, parts-None)
+pub before-Some : (separator : ℕ) (text : List ℕ) (i : ℕ) → position (λ b. b == separator) text ≡ Some i → before separator text ≡ take i text
+before-Some separator text i e = ap (λ n. take n text) (position-Some (λ b. b == separator) text i e).0
+
+pub before-None : (separator : ℕ) (text : List ℕ) → position (λ b. b == separator) text ≡ None → before separator text ≡ text
+before-None separator text e =
+    ap (λ n. take n text) (le_antisymm (prefix_len-le-length (λ b. not (b == separator)) text) (position-None (λ b. b == separator) text e)) ∙ take-length text
+
+pub ruleset parts_rules = (parts-Some, parts-None, before-Some, before-None)
 
 -- there is always a first part
 slice_split-filled : {X : Type 0} (p : X → Bool) (xs : List X) → 0 < length (slice_split p xs)

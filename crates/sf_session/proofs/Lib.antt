@@ -1,8 +1,6 @@
 pub mod Cuts
 pub mod Digits
 pub mod Names
-pub mod Places
-pub mod VariableRows
 pub mod Modules
 pub mod SoFar
 pub mod OneReply
@@ -10,3 +8,7 @@ pub mod OneOutput
 pub mod JoinedItems
 pub mod PrintedTerms
 pub mod PrintedRows
+pub mod Signs
+pub mod SmallTerms
+pub mod PlacedTerms
+pub mod PlacedRows

@@ -2,9 +2,11 @@
 use Rattle.std.proofs.Common.{◌≡◌, ℕ, List, [], Bool, true, false, Option, Some, None, refl}
 use Rattle.std.specs.Prelude.{MatchOption}
 use Rattle.std.specs.Bool.{MatchBool}
-use Rattle.sf_session.specs.State.{State, ring_of, opens, enters, module_named, defines}
+use Rattle.sf_session.specs.State.{State, ring_of, opens, enters, module_named, is_degree}
+use Rattle.sf_session.specs.Placed.{relations_of, first_fault}
+use Rattle.std.specs.List.{list_all}
 use Rattle.sf_session.specs.Grammar.{line_of}
-use Rattle.sf_session.specs.Replies.{Gives, Carried, Answered, Step, syntax_text, later_text}
+use Rattle.sf_session.specs.Replies.{Gives, Carried, Answered, Step, ok_text, syntax_text, later_text, module_text, can_define}
 use Rattle.sf_session.specs.declared.command.Command.{Command}
 use Rattle.sf_session.specs.declared.command.Command.TheVariants.{Spectral, Ring, Module, Show, Later}
 use Rattle.sf_session.specs.declared.command.Line.{Line}
@@ -35,8 +37,13 @@ refused old = IsOne-Gives later_text old
 pub IsOne-Carried : (command : Command) (old : State) → IsOne (Carried command old)
 IsOne-Carried (Spectral version) old = IsOne-MatchBool (opens old.heads version) (IsOne-Gives _ _) (refused old)
 IsOne-Carried (Ring modulus names) old = IsOne-MatchBool (enters old.heads modulus names) (IsOne-Gives _ _) (refused old)
-IsOne-Carried (Module name degree variables) old =
-    IsOne-MatchOption (ring_of old.heads) (refused old) (λ r. IsOne-MatchBool (defines r old.modules name degree variables) (IsOne-Gives _ _) (refused old))
+IsOne-Carried (Module name degrees relations) old =
+    IsOne-MatchOption (ring_of old.heads) (refused old) (λ r.
+    IsOne-MatchBool (can_define r old.modules name degrees relations.rows)
+    (IsOne-MatchOption (first_fault 1 degrees (relations_of r degrees relations.rows).rows)
+    (IsOne-MatchBool (list_all is_degree degrees) (IsOne-Gives _ _) (refused old))
+    (λ row. IsOne-Gives _ _))
+    (refused old))
 IsOne-Carried (Show name) old =
     IsOne-MatchOption (ring_of old.heads) (refused old) (λ r. IsOne-MatchOption (module_named name old.modules) (refused old) (λ relations. IsOne-Gives _ _))
 IsOne-Carried Later old = refused old

@@ -1,10 +1,11 @@
 -- The grammar of the lines that are built. A line is cut at its spaces, and its words give the command.
-use Rattle.std.specs.Prelude.{ℕ, Bool, ◌-◌, ◌&&◌, ◌||◌, ◌==◌, nat_le, if◌then◌else◌, Option, Some, None, option_and_then, List, [], ◌∷◌, length, take, drop, slice_index, codes}
-use Rattle.std.specs.Option.{option_map_or}
+use Rattle.std.specs.Prelude.{ℕ, Bool, true, false, ◌&&◌, ◌||◌, ◌==◌, if◌then◌else◌, Option, Some, None, option_and_then, List, [], ◌∷◌, length, codes, ℤ, IsTrue}
+use Rattle.std.specs.Option.{option_map, option_map_or}
 use Rattle.std.specs.List.{list_all, list_any}
 use Rattle.std.specs.Str.{bytes_eq}
-use Rattle.sf_algebra.specs.Printing.{semicolon}
-use Rattle.sf_session.specs.Words.{words, parts, begins_with, is_space, is_name, is_number, number_value, is_integer, integer_value}
+use Rattle.sf_session.specs.Words.{words, begins_with, is_space, is_name, is_number, number_value, is_integer, integer_value}
+use Rattle.sf_session.specs.Placed.{is_written_degree}
+use Rattle.sf_session.specs.MatrixText.{matrix_of}
 use Rattle.sf_session.specs.declared.command.Command.{Command}
 use Rattle.sf_session.specs.declared.command.Command.TheVariants.{Spectral, Ring, Module, Show, Later}
 use Rattle.sf_session.specs.declared.command.Line.{Line}
@@ -45,40 +46,22 @@ ring_command (number ∷ name ∷ names) =
 abbrev pub show_command : List (List ℕ) → Option Command
 show_command arguments = option_and_then (λ name. if is_name name then Some (Show name) else None) (only arguments)
 
--- the text stands in brackets
-abbrev pub is_bracketed : List ℕ → Bool
-is_bracketed text = nat_le 2 (length text) && (slice_index text 0 == 91 && slice_index text (length text - 1) == 93)
+-- the integers up to the word `relations`, and the words after it
+abbrev pub degrees_and_rest : List (List ℕ) → Option (List ℤ × List (List ℕ))
+degrees_and_rest [] = None
+degrees_and_rest (word ∷ words) =
+    if bytes_eq word (codes "relations") then Some ([], words)
+    else (if is_integer word then option_map (λ p. (integer_value word ∷ p.0, p.1)) (degrees_and_rest words) else None)
 
--- what stands between the first byte and the last
-abbrev pub inner : List ℕ → List ℕ
-inner text = take (length text - 2) (drop 1 text)
-
--- the rows of a matrix, without its brackets
-abbrev pub split_rows : List ℕ → List (List ℕ)
-split_rows [] = []
-split_rows (b ∷ bs) = parts semicolon (b ∷ bs)
-
--- the name, the degree and the relations of `NAME degrees DEGREE relations RELATIONS`
-abbrev pub module_parts : List (List ℕ) → Option (List ℕ × List ℕ × List ℕ)
-module_parts arguments = do
+-- module NAME degrees DEGREE .. DEGREE relations MATRIX
+abbrev pub module_command : List (List ℕ) → Option Command
+module_command arguments = do
   named ← first arguments
-  degrees ← after (codes "degrees") named.1
-  degree ← first degrees
-  relations ← after (codes "relations") degree.1
-  text ← only relations
-  Some (named.0, degree.0, text)
-
--- one degree, and relations each of which is a variable
-abbrev pub is_thin : List ℕ × List ℕ × List ℕ → Bool
-is_thin p = is_name p.0 && (is_integer p.1 && (is_bracketed p.2 && list_all is_name (split_rows (inner p.2))))
-
--- the one form of a `module` line that is built; the other lines that begin with this word aren't yet
-abbrev pub thin_command : List ℕ × List ℕ × List ℕ → Command
-thin_command p = if is_thin p then Module p.0 (integer_value p.1) (split_rows (inner p.2)) else Later
-
--- module NAME degrees DEGREE relations RELATIONS
-abbrev pub module_command : List (List ℕ) → Command
-module_command arguments = option_map_or thin_command (module_parts arguments) Later
+  given ← after (codes "degrees") named.1
+  degrees ← degrees_and_rest given
+  text ← only degrees.1
+  relations ← matrix_of text
+  if is_name named.0 then Some (Module named.0 degrees.0 relations) else None
 
 -- the command words that the language has and that aren't built yet
 abbrev pub later_words : List (List ℕ)
@@ -99,7 +82,7 @@ named_command word arguments =
     if is_later_word word then Some Later
     else (if bytes_eq word (codes "spectral") then spectral_command arguments
     else (if bytes_eq word (codes "ring") then ring_command arguments
-    else (if bytes_eq word (codes "module") then Some (module_command arguments)
+    else (if bytes_eq word (codes "module") then module_command arguments
     else (if bytes_eq word (codes "show") then show_command arguments else None))))
 
 -- the command of a line's words, if they are in the grammar
@@ -110,6 +93,20 @@ command_of (word ∷ arguments) = named_command word arguments
 -- a line with no reply: it is empty, holds only spaces or begins with #
 abbrev pub is_silent : List ℕ → Bool
 is_silent line = begins_with 35 line || list_all is_space line
+
+-- the degrees of a command have at most six digits
+abbrev pub IsWritten : Command → Type 0
+IsWritten (Spectral version) = Unit {0}
+IsWritten (Ring modulus names) = Unit {0}
+IsWritten (Module name degrees relations) = IsTrue (list_all is_written_degree degrees)
+IsWritten (Show name) = Unit {0}
+IsWritten Later = Unit {0}
+
+-- the degrees that a line's command gives have at most six digits
+abbrev pub HasWrittenDegrees : Line → Type 0
+HasWrittenDegrees Silent = Unit {0}
+HasWrittenDegrees Malformed = Unit {0}
+HasWrittenDegrees (Read command) = IsWritten command
 
 -- what a line is; a line of the grammar doesn't begin with a space
 abbrev pub line_of : List ℕ → Line

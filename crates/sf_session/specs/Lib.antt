@@ -6,3 +6,6 @@ pub mod Scripts
 pub mod Laws
 pub mod Joins
 pub mod Columns
+pub mod Raw
+pub mod MatrixText
+pub mod Placed

@@ -1,12 +1,10 @@
 -- What the earlier lines of a script have settled: the headings, and the modules by their names.
-use Rattle.std.specs.Prelude.{ℕ, Bool, true, false, not, ◌&&◌, nat_le, Option, Some, None, List, [], ◌∷◌, length, map, is_none, ℤ, pos, neg_ℤ, ◌+ℤ◌, int_le, ◌≤◌}
+use Rattle.std.specs.Prelude.{ℕ, Bool, true, false, not, ◌&&◌, nat_le, Option, Some, None, List, [], ◌∷◌, length, map, is_none, ℤ, pos, neg_ℤ, int_le, ◌≤◌}
 use Rattle.std.specs.Ordering.{int_eq}
-use Rattle.std.specs.List.{list_all, list_any, position_or_len}
+use Rattle.std.specs.List.{list_any}
 use Rattle.std.specs.Map.{lookup}
 use Rattle.std.specs.Str.{bytes_eq}
 use Rattle.sf_field.specs.Moduli.{is_modulus}
-use Rattle.sf_algebra.specs.Monomials.{variable}
-use Rattle.sf_algebra.specs.Vectors.{Vector}
 use Rattle.sf_algebra.specs.Matrices.{Matrix}
 use Rattle.sf_session.specs.declared.heads.Ring.{Ring}
 use Rattle.sf_session.specs.declared.heads.Heads.{Heads}
@@ -51,25 +49,9 @@ enters (Within ring) modulus names = false
 abbrev pub module_named : List ℕ → List (List ℕ × Matrix) → Option Matrix
 module_named name modules = lookup (bytes_eq name) modules
 
--- the relation of degree d + 1 that says that a variable times the one generator is 0
-abbrev pub variable_row : List (List ℕ) → ℤ → List ℕ → Vector
-variable_row names d name = record {
-  degree = d +ℤ pos 1;
-  terms = record { at = record { position = 0; monomial = variable (position_or_len (λ other. bytes_eq other name) names) }; coefficient = 1 } ∷ [];
-}
-
--- the relations of a module with one generator that are variables
-abbrev pub variable_rows : Ring → ℤ → List (List ℕ) → Matrix
-variable_rows ring d variables = record { modulus = ring.modulus; target = d ∷ []; rows = map (variable_row ring.names d) variables }
-
 -- a degree that a generator may be given
 abbrev pub is_degree : ℤ → Bool
 is_degree d = int_le (neg_ℤ (pos 2000)) d && int_le d (pos 2000)
-
--- the name is new, the degree is in its range, and each relation is a variable of the ring
-abbrev pub defines : Ring → List (List ℕ × Matrix) → List ℕ → ℤ → List (List ℕ) → Bool
-defines ring modules name degree variables =
-    is_none (module_named name modules) && (is_degree degree && list_all (is_among ring.names) variables)
 
 -- a ring has room for its variables
 abbrev pub HasFewVariables : Heads → Type 0

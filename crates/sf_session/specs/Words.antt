@@ -1,6 +1,7 @@
 -- How a script is cut into lines, and a line into words, names and numbers.
-use Rattle.std.specs.Prelude.{ℕ, Bool, true, false, ◌&&◌, ◌||◌, ◌==◌, nat_lt, nat_le, if◌then◌else◌, Option, Some, None, List, [], ◌∷◌, length, drop, filter, ℤ, pos, neg_ℤ}
-use Rattle.std.specs.List.{slice_split, list_all}
+use Rattle.std.specs.Prelude.{ℕ, Bool, true, false, ◌&&◌, ◌||◌, ◌==◌, nat_lt, nat_le, if◌then◌else◌, Option, Some, None, List, [], ◌∷◌, length, drop, filter, position, ◌+◌, ℤ, pos, neg_ℤ}
+use Rattle.std.specs.Option.{option_map}
+use Rattle.std.specs.List.{slice_split, list_all, before_first}
 use Rattle.std.specs.Char.{is_ascii_alphabetic, is_ascii_alphanumeric, is_ascii_digit}
 use Rattle.std.specs.Str.Lines.{lines}
 use Rattle.std.specs.Str.Parse.{digits_value}
@@ -28,6 +29,15 @@ words line = filter is_filled (slice_split is_space line)
 -- the parts of a text between the bytes that separate them
 abbrev pub parts : ℕ → List ℕ → List (List ℕ)
 parts separator text = slice_split (λ b. b == separator) text
+
+-- what stands before the first separator, or the whole text where there is none
+abbrev pub before : ℕ → List ℕ → List ℕ
+before separator text = before_first (λ b. b == separator) text
+
+-- what stands behind the first separator, where there is one
+abbrev pub behind : ℕ → List ℕ → Option (List ℕ)
+behind separator text =
+    option_map (λ i. drop (i + 1) text) (position (λ b. b == separator) text)
 
 -- the parts of what is left of a text, if anything is
 abbrev pub parts_left : ℕ → Option (List ℕ) → List (List ℕ)

@@ -1,3 +1,4 @@
+use crate::raw::RawMatrix;
 use sf_matrix::{List, Name};
 
 /// What a line of the grammar asks for.
@@ -12,11 +13,11 @@ pub enum Command {
         modulus: u64,
         names: List<Name>,
     },
-    /// A module with one generator, each relation of which is a variable.
+    /// A module: the degrees of its generators, and its relations, a row each.
     Module {
         name: Name,
-        degree: i32,
-        variables: List<Name>,
+        degrees: List<i32>,
+        relations: RawMatrix,
     },
     Show {
         name: Name,

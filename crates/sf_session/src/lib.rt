@@ -6,9 +6,11 @@ mod execution;
 mod headings;
 mod heads;
 mod laws;
+mod matrix_text;
+mod placing;
 mod printing;
+mod raw;
 mod reading;
-mod relations;
 mod session;
 mod strategy;
 #[cfg(test)]

@@ -1,14 +1,15 @@
-ghost use Rattle.std.specs.Prelude.{◌≡◌, [], ◌∷◌, ◌&&◌, IsTrue, IfOk, SomeIff, MatchOption, option_copied, map};
+ghost use Rattle.std.specs.Prelude.{◌≡◌, IsTrue, IfSome, IfOk, SomeIff, option_copied, option_and_then, map, codes};
 ghost use Rattle.std.specs.List.{list_all, list_any};
 ghost use Rattle.std.specs.Option.{option_map};
 ghost use Rattle.std.specs.Str.{bytes_eq};
-ghost use Rattle.sf_algebra.specs.Printing.{semicolon};
-ghost use Rattle.sf_session.specs.Words.{words, parts, is_space, is_name};
-ghost use Rattle.sf_session.specs.Grammar.{later_words, is_later_word, is_silent, command_of, line_of, only, spectral_command, ring_command, show_command, module_command, module_parts, thin_command, after, is_bracketed, inner, split_rows};
+ghost use Rattle.sf_session.specs.Words.{words, is_space, is_name};
+ghost use Rattle.sf_session.specs.Grammar.{later_words, is_later_word, is_silent, command_of, line_of, only, first, after, spectral_command, ring_command, show_command, module_command, degrees_and_rest, IsWritten, HasWrittenDegrees};
+ghost use Rattle.sf_session.specs.Placed.{is_written_degree};
 
 use crate::command::{Command, Line};
+use crate::matrix_text::read_matrix;
 use crate::tokens::{is_name, read_integer, read_number};
-use crate::words::{begins_with, next_part, next_word};
+use crate::words::{begins_with, next_word};
 use sf_field::OutOfMemory;
 use sf_matrix::{List, Name};
 use std::alloc::Global;
@@ -52,7 +53,8 @@ const LATER_WORDS: [&[u8]; 32] = [
 
 /// What a line of a script is.
 pub fn read_line(alloc: Global, line: &[u8]) -> Result<Line, OutOfMemory>
-    ensures { IfOk result (λ r. r ≡ line_of line.now) }
+    ensures line { IfOk result (λ r. r ≡ line_of line.now) }
+    ensures written { IfOk result HasWrittenDegrees }
 {
     if is_silent(line) {
         return Ok(Line::Silent);
@@ -79,7 +81,8 @@ fn holds_only_spaces(line: &[u8]) -> bool
 }
 
 fn read_command(alloc: Global, line: &[u8]) -> Result<Option<Command>, OutOfMemory>
-    ensures { IfOk result (λ r. r ≡ command_of (words line.now)) }
+    ensures command { IfOk result (λ r. r ≡ command_of (words line.now)) }
+    ensures written { IfOk result (λ r. IfSome r IsWritten) }
 {
     let Some((word, arguments)) = next_word(line) else {
         return Ok(None);
@@ -94,7 +97,7 @@ fn read_command(alloc: Global, line: &[u8]) -> Result<Option<Command>, OutOfMemo
         return read_ring(alloc, arguments);
     }
     if word == b"module".as_slice() {
-        return Ok(Some(read_module(alloc, arguments)?));
+        return read_module(alloc, arguments);
     }
     if word == b"show".as_slice() {
         return read_show(alloc, arguments);
@@ -159,25 +162,34 @@ fn read_show(alloc: Global, arguments: &[u8]) -> Result<Option<Command>, OutOfMe
     }
 }
 
-fn read_module(alloc: Global, arguments: &[u8]) -> Result<Command, OutOfMemory>
-    ensures { IfOk result (λ command. command ≡ module_command (words arguments.now)) }
+fn read_module(alloc: Global, arguments: &[u8]) -> Result<Option<Command>, OutOfMemory>
+    ensures value { IfOk result (λ r. r ≡ module_command (words arguments.now)) }
+    ensures written { IfOk result (λ r. IfSome r IsWritten) }
 {
-    match module_parts(arguments) {
-        None => Ok(Command::Later),
-        Some((name, degree, text)) => read_thin(alloc, name, degree, text),
+    let Some((name, rest)) = next_word(arguments) else {
+        return Ok(None);
+    };
+    let Some(given) = after_word(rest, b"degrees") else {
+        return Ok(None);
+    };
+    let Some((degrees, rest)) = read_degrees(alloc, given)? else {
+        return Ok(None);
+    };
+    let Some(text) = only_word(rest) else {
+        return Ok(None);
+    };
+    let Some(relations) = read_matrix(alloc, text)? else {
+        return Ok(None);
+    };
+    if !is_name(name) {
+        return Ok(None);
     }
-}
-
-/// The name, the degree and the relations of a `module` line with one generator.
-fn module_parts(arguments: &[u8]) -> Option<(&[u8], &[u8], &[u8])>
-    ensures { option_map (λ p. (p.0.now, p.1.now, p.2.now)) result ≡ module_parts (words arguments.now) }
-{
-    let (name, rest) = next_word(arguments)?;
-    let rest = after_word(rest, b"degrees")?;
-    let (degree, rest) = next_word(rest)?;
-    let rest = after_word(rest, b"relations")?;
-    let text = only_word(rest)?;
-    Some((name, degree, text))
+    let name = make_name(alloc, name)?;
+    Ok(Some(Command::Module {
+        name,
+        degrees,
+        relations,
+    }))
 }
 
 fn after_word<'a>(line: &'a [u8], word: &[u8]) -> Option<&'a [u8]>
@@ -187,56 +199,24 @@ fn after_word<'a>(line: &'a [u8], word: &[u8]) -> Option<&'a [u8]>
     if first == word { Some(rest) } else { None }
 }
 
-fn read_thin(alloc: Global, name: &[u8], degree: &[u8], text: &[u8]) -> Result<Command, OutOfMemory>
-    ensures { IfOk result (λ command. command ≡ thin_command (name.now, degree.now, text.now)) }
+/// The integers up to the word `relations`, and what stands behind that word.
+fn read_degrees(alloc: Global, line: &[u8]) -> Result<Option<(List<i32>, &[u8])>, OutOfMemory>
+    ensures value { IfOk result (λ r. option_map (λ p. (p.0, words p.1.now)) r ≡ degrees_and_rest (words line.now)) }
+    ensures written { IfOk result (λ r. IfSome r (λ p. IsTrue (list_all is_written_degree p.0))) }
 {
-    if !is_name(name) {
-        return Ok(Command::Later);
-    }
-    let Some(degree) = read_integer(degree) else {
-        return Ok(Command::Later);
-    };
-    let name = make_name(alloc, name)?;
-    match read_rows(alloc, text)? {
-        None => Ok(Command::Later),
-        Some(variables) => Ok(Command::Module {
-            name,
-            degree,
-            variables,
-        }),
-    }
-}
-
-/// The variables of relations each of which is a variable.
-fn read_rows(alloc: Global, text: &[u8]) -> Result<Option<List<Name>>, OutOfMemory>
-    ensures { IfOk result (λ r.
-        SomeIff r (IsTrue (is_bracketed text.now && list_all is_name (split_rows (inner text.now)))) (split_rows (inner text.now))) }
-{
-    if text.len() < 2 || text[0] != b'[' || text[text.len() - 1] != b']' {
-        return Ok(None);
-    }
-    let (_, opened) = text.split_at(1);
-    let (rows, _) = opened.split_at(text.len() - 2);
-    if rows.is_empty() {
-        return Ok(Some(List::new(alloc)));
-    }
-    split_names(alloc, rows)
-}
-
-fn split_names(alloc: Global, rows: &[u8]) -> Result<Option<List<Name>>, OutOfMemory>
-    ensures { IfOk result (λ r. SomeIff r (IsTrue (list_all is_name (parts semicolon rows.now))) (parts semicolon rows.now)) }
-{
-    let mut names = List::new(alloc);
-    let mut left = Some(rows);
-    while let Some(text) = left {
-        let (row, others) = next_part(text, b';');
-        if !is_name(row) {
-            return Ok(None);
+    let mut degrees = List::new(alloc);
+    let mut rest = line;
+    while let Some((word, others)) = next_word(rest) {
+        if word == b"relations".as_slice() {
+            return Ok(Some((degrees, others)));
         }
-        names.push(make_name(alloc, row)?)?;
-        left = others;
+        let Some(degree) = read_integer(word) else {
+            return Ok(None);
+        };
+        degrees.push(degree)?;
+        rest = others;
     }
-    Ok(Some(names))
+    Ok(None)
 }
 
 /// The names of a list of words, where all are names.
@@ -255,7 +235,7 @@ fn read_names(alloc: Global, line: &[u8]) -> Result<Option<List<Name>>, OutOfMem
     Ok(Some(names))
 }
 
-fn make_name(alloc: Global, word: &[u8]) -> Result<Name, OutOfMemory>
+pub fn make_name(alloc: Global, word: &[u8]) -> Result<Name, OutOfMemory>
     requires { IsTrue (is_name word.now) }
     ensures { IfOk result (λ name. name ≡ word.now) }
 {

@@ -1,15 +1,20 @@
 ghost use Rattle.std.specs.Prelude.{◌≡◌, [], ◌∷◌, ◌++◌, IsTrue, IfOk, OnOk, OnErr, is_none};
-ghost use Rattle.sf_session.specs.State.{start, module_named};
-ghost use Rattle.sf_session.specs.Replies.{Step, Carried, ok_text, later_text, syntax_text, module_text};
+ghost use Rattle.std.specs.List.{list_all};
+ghost use Rattle.sf_session.specs.State.{start, module_named, is_degree};
+ghost use Rattle.sf_session.specs.Replies.{Step, Carried, ok_text, later_text, syntax_text, module_text, degree_text, can_define};
+ghost use Rattle.sf_session.specs.Grammar.{IsWritten};
+ghost use Rattle.sf_session.specs.Placed.{is_written_degree};
 
 use crate::command::{Command, Line};
 use crate::headings::{can_open, entered_modulus, ring_of};
 use crate::heads::{Heads, Ring};
+use crate::placing::{has_shape, knows_rows, place_rows};
 use crate::printing::{print_degrees, print_matrix};
+use crate::raw::RawMatrix;
 use crate::reading::read_line;
-use crate::relations::{are_variables, is_degree, variable_rows};
 use crate::strategy::Strategy;
 use indexmap::IndexMap;
+use itoa::Buffer;
 use sf_field::OutOfMemory;
 use sf_matrix::{List, Matrix, Name};
 use std::alloc::Global;
@@ -60,6 +65,7 @@ impl Session {
     }
 
     fn carry_out(&mut self, command: Command) -> Result<Vec<u8>, OutOfMemory>
+        requires { IsWritten command }
         ensures reply { IfOk result (λ reply. Carried command self.old reply.items self.new) }
         ensures kept { OnErr result (self.new ≡ self.old) }
     {
@@ -68,9 +74,9 @@ impl Session {
             Command::Ring { modulus, names } => self.enter(modulus, names),
             Command::Module {
                 name,
-                degree,
-                variables,
-            } => self.define(name, degree, variables),
+                degrees,
+                relations,
+            } => self.define(name, degrees, relations),
             Command::Show { name } => self.show(name),
             Command::Later => refused(self.alloc),
         }
@@ -103,25 +109,29 @@ impl Session {
     fn define(
         &mut self,
         name: Name,
-        degree: i32,
-        variables: List<Name>,
+        degrees: List<i32>,
+        relations: RawMatrix,
     ) -> Result<Vec<u8>, OutOfMemory>
-        ensures reply { IfOk result (λ reply. Carried (Command.Module name degree variables) self.old reply.items self.new) }
+        requires { IsTrue (list_all is_written_degree degrees) }
+        ensures reply { IfOk result (λ reply. Carried (Command.Module name degrees relations) self.old reply.items self.new) }
         ensures kept { OnErr result (self.new ≡ self.old) }
     {
         let Some(ring) = ring_of(&self.heads) else {
             return refused(self.alloc);
         };
-        if self.modules.contains_key(&name)
-            || !is_degree(degree)
-            || !are_variables(ring.names.as_slice(), variables.as_slice())
-        {
+        if !can_define(ring, &self.modules, &name, &degrees, &relations) {
             return refused(self.alloc);
         }
-        let relations = variable_rows(self.alloc, ring, degree, variables.as_slice())?;
-        let reply = accepted(self.alloc)?;
-        add_module(&mut self.modules, name, relations)?;
-        Ok(reply)
+        let in_range = are_degrees(degrees.as_slice());
+        match place_rows(self.alloc, ring, degrees, relations.rows.as_slice())? {
+            Err(row) => misgraded(self.alloc, row),
+            Ok(_) if !in_range => refused(self.alloc),
+            Ok(relations) => {
+                let reply = accepted(self.alloc)?;
+                add_module(&mut self.modules, name, relations)?;
+                Ok(reply)
+            }
+        }
     }
 
     fn show(&self, name: Name) -> Result<Vec<u8>, OutOfMemory>
@@ -136,6 +146,40 @@ impl Session {
             _ => refused(self.alloc),
         }
     }
+}
+
+fn can_define(
+    ring: &Ring,
+    modules: &IndexMap<Name, Matrix>,
+    name: &Name,
+    degrees: &List<i32>,
+    relations: &RawMatrix,
+) -> bool
+    ensures { result ≡ can_define ring.now modules.now.entries name.now degrees.now relations.now.rows }
+{
+    let rows = relations.rows.as_slice();
+    knows_rows(ring.names.as_slice(), rows)
+        && !modules.contains_key(name)
+        && has_shape(degrees.len(), rows)
+}
+
+/// Whether each is a degree that a generator may be given.
+fn are_degrees(degrees: &[i32]) -> bool
+    ensures { result ≡ list_all is_degree degrees.now }
+{
+    degrees
+        .iter()
+        .all(|degree| -2000 <= *degree && *degree <= 2000)
+}
+
+fn misgraded(alloc: Global, row: u64) -> Result<Vec<u8>, OutOfMemory>
+    ensures { IfOk result (λ reply. reply.items ≡ degree_text row) }
+{
+    let mut buffer = Buffer::new();
+    let mut reply = Vec::from_slice(alloc, b"error degree ")?;
+    reply.extend_from_slice(buffer.format(row).as_bytes())?;
+    reply.push(b'\n')?;
+    Ok(reply)
 }
 
 #[tactic(auto, using(crate::proofs::Modules::module_rules))]

@@ -27,7 +27,7 @@ fn answered(alloc: Global, words: &[&str], script: &[u8]) -> Result<(Status, Mem
 
 #[test]
 fn answers_scripts(rt: HostRuntime) -> Result<(), Fail> {
-    let cases: [(&[u8], &[u8]); 9] = [
+    let cases: [(&[u8], &[u8]); 10] = [
         (b"", b""),
         (FIRST, FIRST_REPLIES),
         (
@@ -39,21 +39,25 @@ fn answers_scripts(rt: HostRuntime) -> Result<(), Fail> {
             b"ok\nerror later\nerror later\nok\nerror later\n",
         ),
         (
-            b"modul K\n show K\nshow K L\nshow 1\nshow K\r\r\n",
-            b"error syntax 0\nerror syntax 0\nerror syntax 0\nerror syntax 0\nerror syntax 0\n",
+            b"modul K\n show K\nshow K L\nshow 1\nshow K\r\r\nmodule\n",
+            b"error syntax 0\nerror syntax 0\nerror syntax 0\nerror syntax 0\nerror syntax 0\nerror syntax 0\n",
         ),
         (b"\n  \n# note\n\r\n#\xff\0", b""),
         (
-            b"@\nbasis K\nlimit x\nmodule\nmodule K degrees 0 1 relations [x,y\n",
-            b"error later\nerror later\nerror later\nerror later\nerror later\n",
+            b"@\nbasis K\nlimit x\n",
+            b"error later\nerror later\nerror later\n",
         ),
         (
             b"spectral 1\r\nring 2 a\r\nmodule A degrees -7 relations []  \r\nshow  A\r\n",
             b"ok\nok\nok\ndegrees (-7)\nrels ()->(-7) []\n",
         ),
         (
-            b"spectral 1\nring 2 a b\nmodule A degrees 2000 relations [b;a;b]\nmodule A degrees 0 relations []\nmodule B degrees 2001 relations []\nmodule C degrees 0 relations [c]\nshow A",
-            b"ok\nok\nok\nerror later\nerror later\nerror later\ndegrees (2000)\nrels (2001,2001,2001)->(2000) [b;a;b]\n",
+            b"spectral 1\nring 101 x y\nmodule P degrees 1 0 relations [x,x^2+y^2;0,0]\nshow P\nmodule Q degrees 0 relations [102*x-y]\nshow Q\n",
+            b"ok\nok\nok\ndegrees (1,0)\nrels (2,0)->(1,0) [x,x^2+y^2;0,0]\nok\ndegrees (0)\nrels (1)->(0) [x+100*y]\n",
+        ),
+        (
+            b"spectral 1\nring 3 x y\nmodule A degrees 2001 relations [x;x+1]\nmodule A degrees 2001 relations [x]\nmodule A degrees 0 relations [z+1]\nmodule A degrees 0 relations [x,y]\nmodule A degrees relations []\nmodule A degrees 0 relations [1]\n",
+            b"ok\nok\nerror degree 2\nerror later\nerror later\nerror later\nok\nerror later\n",
         ),
     ];
     for (script, wanted) in cases {

@@ -1,7 +1,8 @@
-ghost use Rattle.std.specs.Prelude.{◌≡◌, ◌^◌, ◌<◌, SomeIff, IsTrue};
+ghost use Rattle.std.specs.Prelude.{◌≡◌, ◌^◌, ◌<◌, SomeIff, IfSome, IsTrue};
 ghost use Rattle.std.specs.Prelude.{length};
 ghost use Rattle.std.specs.Char.{is_ascii_digit};
 ghost use Rattle.std.specs.List.{list_all};
+ghost use Rattle.sf_session.specs.Placed.{is_written_degree};
 ghost use Rattle.sf_session.specs.Words.{is_name, is_name_byte, are_digits, is_number, number_value, is_integer, integer_value};
 
 /// Whether the word is a name: a letter, and then at most 31 letters, digits and underscores.
@@ -37,7 +38,8 @@ pub fn read_number(word: &[u8]) -> Option<u64>
 
 /// The value of an integer: 1 to 6 digits, which a minus may precede.
 pub fn read_integer(word: &[u8]) -> Option<i32>
-    ensures { SomeIff result (IsTrue (is_integer word.now)) (integer_value word.now) }
+    ensures value { SomeIff result (IsTrue (is_integer word.now)) (integer_value word.now) }
+    ensures written { IfSome result (λ z. IsTrue (is_written_degree z)) }
 {
     match word.split_first() {
         Some((b'-', digits)) => {
@@ -57,7 +59,7 @@ pub fn read_integer(word: &[u8]) -> Option<i32>
     }
 }
 
-fn are_digits(word: &[u8], most: usize) -> bool
+pub fn are_digits(word: &[u8], most: usize) -> bool
     ensures { result ≡ are_digits most word.now }
 {
     !word.is_empty() && word.len() <= most && all_digits(word)
@@ -69,7 +71,7 @@ fn all_digits(word: &[u8]) -> bool
     word.iter().all(|byte| byte.is_ascii_digit())
 }
 
-fn digits_value(word: &[u8]) -> u64
+pub fn digits_value(word: &[u8]) -> u64
     requires { IsTrue (are_digits 18 word.now) }
     ensures value { result ≡ number_value word.now }
     ensures bound { result < 10 ^ length word.now }

@@ -1,6 +1,6 @@
 ghost use Rattle.std.specs.Prelude.{◌≡◌, ◌<◌, ◌≤◌, [], ◌∷◌, ◌==◌, length, MatchOption, IfSome, option_copied, position};
 ghost use Rattle.std.specs.Str.Lines.{strip_carriage_return};
-ghost use Rattle.sf_session.specs.Words.{script_lines, begins_with, words, parts, parts_left};
+ghost use Rattle.sf_session.specs.Words.{script_lines, begins_with, words, parts, parts_left, before, behind};
 
 /// The first line of a script, and the script after it.
 #[tactic(auto, using(crate::proofs::Cuts::lines_rules))]
@@ -28,6 +28,8 @@ pub fn next_line(script: &[u8]) -> Option<(&[u8], &[u8])>
 #[tactic(auto, using(crate::proofs::Cuts::parts_rules))]
 pub fn next_part(text: &[u8], separator: u8) -> (&[u8], Option<&[u8]>)
     ensures cut { parts separator text.now ≡ result.0.now ∷ parts_left separator (option_copied result.1) }
+    ensures first { result.0.now ≡ before separator text.now }
+    ensures rest { option_copied result.1 ≡ behind separator text.now }
     ensures shorter { IfSome result.1 (λ rest. length rest.now < length text.now) }
 {
     match find(text, separator) {

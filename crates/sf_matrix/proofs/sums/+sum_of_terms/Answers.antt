@@ -21,7 +21,7 @@ returns-in_ok-push_nonzero-in-len1 t c =
     let positive : 0 < c.args.modulus = omega (arith, c.value-p.ensures.above_one, c.value-p.ensures.same) in
     let sum =
     c.in_ok-push_nonzero-in-len1.ensures.ok
-    ∙ (λ i. c.new-sum.ensures.items i ++ put (c.t.view_is i).at ((c.t.view_is i).coefficient % c.value-p.ensures.same i) [])
+    ∙ (λ i. c.in_ok-sum-in-len1.ensures.items i ++ put (c.t.view_is i).at ((c.t.view_is i).coefficient % c.value-p.ensures.same i) [])
     ∙ sym (normal-one place_cmp c.args.modulus c.t-item.result)
     ∙ ap (normal place_cmp c.args.modulus) (sym (only_item c.args.terms.now c.t-item.result one c.t-item.is)) in
     record { sum = sum; canonical = rw sum (IsCanonical-normal place_cmp place_cmp_linear c.args.modulus positive c.args.terms.now) }
