@@ -1,5 +1,5 @@
 -- The printed factors of a monomial, one exponent after another.
-use Rattle.std.proofs.Common.{◌≡◌, refl, ℕ, ◌+◌, ◌<◌, ◌≤◌, zero, suc, Bool, true, false, cond, eqb, List, [], ◌∷◌, Some, length, drop, subst, sym, ap, ◌∙◌, min, ⊎_elim, arith}
+use Rattle.std.proofs.Common.{◌≡◌, refl, ℕ, ◌+◌, ◌<◌, ◌≤◌, false, cond, eqb, List, [], ◌∷◌, Some, length, drop, ap, ◌∙◌, min, ⊎_elim, arith}
 use Rattle.std.specs.List.{AllByRecursion, slice_get}
 use Rattle.std.proofs.lemmas.List.{drop_all}
 use Rattle.std.proofs.lemmas.Bool.{cases_lt}

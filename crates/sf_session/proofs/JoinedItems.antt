@@ -20,6 +20,7 @@ joined_after-false c (x ∷ y ∷ ys) = ap (λ zs. x ++ zs) (joined_after-true c
 abbrev pub joined_from : {X : Type 0} → (X → List ℕ) → ℕ → List X → ℕ → List ℕ
 joined_from f c xs i = joined_after (ltb 0 i) c (map f (drop i xs))
 
+-- an item stands before each place but the first
 positive : (i : ℕ) → true ≡ ltb 0 (i + 1)
 positive i = grind (arith, nat_tests)
 

@@ -1,7 +1,7 @@
 -- The entries of a row, written one by one.
 use Rattle.std.proofs.Common.{◌≡◌, ◌≢◌, ℕ, ◌+◌, ◌<◌, ◌≤◌, List, [], ◌∷◌, ◌++◌, Some, length, take, drop, ltb, subst, sym, ap, ◌∙◌, zero-add, arith}
 use Rattle.std.specs.List.{AllByRecursion, slice_get, range_with_len}
-use Rattle.std.proofs.lemmas.List.{drop_all, take-append-drop}
+use Rattle.std.proofs.lemmas.List.{take-append-drop}
 use Rattle.std.proofs.lemmas.List.FromFn.{length-range_with_len, get_or-range_with_len}
 use Rattle.std.proofs.lemmas.Option.{slice_get-get_or}
 use Rattle.sf_algebra.specs.Terms.{Term, IsDescending}
@@ -18,9 +18,6 @@ use Rattle.sf_session.proofs.JoinedItems.{joined_from, joined_from-start, joined
 module _ (column : ℕ) (ts : List (Term Place)) (k : ℕ) where
   abbrev Stands : List (Term Place) → Type 0
   Stands = AllByRecursion (λ t. column ≤ t.at.position)
-
-  pub IsFromColumn-end : length ts ≤ k → IsFromColumn column k ts
-  IsFromColumn-end h = subst Stands (sym (drop_all k ts h)) tt
 
   -- past a column, no entry is left there
   pub entry-drop_past : IsFromColumn (column + 1) k ts → entry column (drop k ts) ≡ []

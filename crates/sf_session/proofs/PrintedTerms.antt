@@ -1,4 +1,4 @@
--- The factors of a monomial, written one by one.
+-- The factors of a monomial and the terms of a polynomial, written one by one.
 use Rattle.std.proofs.Common.{◌≡◌, ℕ, ◌+◌, ◌<◌, Bool, true, false, List, [], ◌∷◌, ◌++◌, Some, length, drop, eqb, refl, map, ltb, sym, ap, ◌∙◌, min, ◌≤◌, ◌≢◌, codes, arith}
 use Rattle.std.specs.List.{slice_get}
 use Rattle.std.proofs.lemmas.Bool.Decides.{nat_tests}

@@ -23,7 +23,8 @@ pub fn print_degrees(text: &mut Vec<u8>, degrees: &[i32]) -> Result<(), OutOfMem
 
 /// Writes the degrees of a matrix's rows in the same way.
 pub fn print_row_degrees(text: &mut Vec<u8>, m: &Matrix) -> Result<(), OutOfMemory>
-    ensures ok { OnOk result (text.new.items ≡ text.old.items ++ degrees_text (row_degrees m.now)) }
+    ensures ok { OnOk result (text.new.items
+        ≡ text.old.items ++ degrees_text (row_degrees m.now)) }
 {
     text.push(b'(')?;
     for i in 0..m.rows() {
@@ -34,7 +35,8 @@ pub fn print_row_degrees(text: &mut Vec<u8>, m: &Matrix) -> Result<(), OutOfMemo
 }
 
 fn print_degree(text: &mut Vec<u8>, follows: bool, degree: i32) -> Result<(), OutOfMemory>
-    ensures ok { OnOk result (text.new.items ≡ text.old.items ++ separator_after follows comma ++ signed_decimal degree) }
+    ensures ok { OnOk result (text.new.items
+        ≡ text.old.items ++ separator_after follows comma ++ signed_decimal degree) }
 {
     let mut buffer = Buffer::new();
     separate(text, follows, b',')?;

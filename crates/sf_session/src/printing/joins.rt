@@ -5,7 +5,8 @@ use sf_field::OutOfMemory;
 
 /// Writes the separator, where an item stands before.
 pub fn separate(text: &mut Vec<u8>, follows: bool, separator: u8) -> Result<(), OutOfMemory>
-    ensures ok { OnOk result (text.new.items ≡ text.old.items ++ separator_after follows separator) }
+    ensures ok { OnOk result (text.new.items
+        ≡ text.old.items ++ separator_after follows separator) }
 {
     if follows {
         text.push(separator)?;

@@ -7,7 +7,10 @@ use crate::printing::row::print_row;
 use sf_field::OutOfMemory;
 use sf_matrix::{Matrix, Name};
 
-/// Writes `ROWS->COLUMNS ENTRIES` behind what `text` holds: the degrees of the rows and of the columns, and the entries.
+/// Writes `ROWS->COLUMNS ENTRIES` behind what `text` holds.
+///
+/// These are the degrees of the rows, those of the columns, and the entries. `names` are those of the
+/// ring's variables; a variable without a name is left out.
 pub fn print_matrix(text: &mut Vec<u8>, names: &[Name], m: &Matrix) -> Result<(), OutOfMemory>
     ensures ok { OnOk result (text.new.items ≡ text.old.items ++ matrix_text names.now m.now) }
 {
@@ -20,7 +23,8 @@ pub fn print_matrix(text: &mut Vec<u8>, names: &[Name], m: &Matrix) -> Result<()
 
 /// Writes the rows in brackets, separated by semicolons.
 fn print_rows(text: &mut Vec<u8>, names: &[Name], m: &Matrix) -> Result<(), OutOfMemory>
-    ensures ok { OnOk result (text.new.items ≡ text.old.items ++ rows_text names.now (length m.now.target) m.now.rows) }
+    ensures ok { OnOk result (text.new.items
+        ≡ text.old.items ++ rows_text names.now (length m.now.target) m.now.rows) }
 {
     let columns = m.cols();
     if columns == 0 {

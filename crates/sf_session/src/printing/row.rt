@@ -16,7 +16,8 @@ pub fn print_row(
     row: &Vector,
     columns: usize,
 ) -> Result<(), OutOfMemory>
-    ensures ok { OnOk result (text.new.items ≡ text.old.items ++ row_text names.now columns row.now.terms) }
+    ensures ok { OnOk result (text.new.items
+        ≡ text.old.items ++ row_text names.now columns row.now.terms) }
 {
     let mut next = 0;
     for column in 0..columns {
@@ -26,7 +27,9 @@ pub fn print_row(
     Ok(())
 }
 
-/// Writes the entry at a column, whose terms stand from number `start` on, and returns the number of the first term past it.
+/// Writes the entry at a column, whose terms stand from number `start` on.
+///
+/// It returns the number of the first term past the column.
 fn print_entry(
     text: &mut Vec<u8>,
     names: &[Name],
@@ -35,7 +38,8 @@ fn print_entry(
     start: usize,
 ) -> Result<usize, OutOfMemory>
     requires { IsFromColumn column start row.now.terms }
-    ensures ok { OnOk result (text.new.items ≡ text.old.items ++ polynomial_text names.now (entry column (drop start row.now.terms))) }
+    ensures ok { OnOk result (text.new.items
+        ≡ text.old.items ++ polynomial_text names.now (entry column (drop start row.now.terms))) }
     ensures past { IfOk result (λ next. IsFromColumn (column + 1) next row.now.terms) }
     ensures later { IfOk result (λ next. SameEntriesPast column start next row.now.terms) }
 {

@@ -8,6 +8,9 @@ use itoa::Buffer;
 use sf_field::OutOfMemory;
 use sf_matrix::{Mono, Name};
 
+/// How many variables a monomial has room for.
+const VARIABLES: usize = 6;
+
 /// Writes a term.
 pub fn print_term(
     text: &mut Vec<u8>,
@@ -15,7 +18,8 @@ pub fn print_term(
     a: Mono,
     coefficient: u32,
 ) -> Result<(), OutOfMemory>
-    ensures ok { OnOk result (text.new.items ≡ text.old.items ++ term_text names.now (record { at = a; coefficient = coefficient })) }
+    ensures ok { OnOk result (text.new.items
+        ≡ text.old.items ++ term_text names.now (record { at = a; coefficient = coefficient })) }
 {
     if coefficient == 1 && a.sum() > 0 {
         return print_factors(text, names, a, false);
@@ -32,10 +36,11 @@ fn print_factors(
     a: Mono,
     coefficient: bool,
 ) -> Result<(), OutOfMemory>
-    ensures ok { OnOk result (text.new.items ≡ text.old.items ++ joined_after coefficient star (factor_texts names.now (exponents a))) }
+    ensures ok { OnOk result (text.new.items
+        ≡ text.old.items ++ joined_after coefficient star (factor_texts names.now (exponents a))) }
 {
     let mut follows = coefficient;
-    for i in 0..names.len().min(6) {
+    for i in 0..names.len().min(VARIABLES) {
         let exponent = a.exponent(i);
         if exponent == 0 {
             continue;
@@ -47,6 +52,7 @@ fn print_factors(
     Ok(())
 }
 
+/// Writes a power of a variable, with no exponent where it is 1.
 fn print_power(text: &mut Vec<u8>, name: &Name, exponent: u16) -> Result<(), OutOfMemory>
     ensures ok { OnOk result (text.new.items ≡ text.old.items ++ power_text name.now exponent) }
 {
