@@ -1,6 +1,7 @@
 ghost use Rattle.std.specs.Prelude.{◌≡◌, ◌≢◌, ◌⊎◌, ◌<◌, ◌≤◌, ℕ, List, [], ◌∷◌, length, map, codes, string_bytes, vec_len, ◌↔◌, IsTrue, IfSome, OnOk, IsErrOf};
 ghost use Rattle.std.specs.Io.KnownBytes.{Appends, IsAtEnd};
 ghost use Rattle.sf_io.specs.Count.{Rose, RoseMore};
+ghost use Rattle.sf_io.specs.Pull.{Gives};
 ghost use Rattle.sf_session.specs.State.{start};
 ghost use Rattle.sf_session.specs.Scripts.{LONGEST, IsOutput, IsFront, IsWholeFront, Outcome};
 
@@ -87,6 +88,8 @@ pub fn run<S: Source, K: Sink>(
     // The causes of the other ends.
     ensures read_fault { result ≡ Status.ReadFault → Rose (S.faults source.old) (S.faults source.new) }
     ensures write_fault { result ≡ Status.WriteFault → Rose (K.faults sink.old) (K.faults sink.new) }
+    ensures fault_short { result ≡ Status.ReadFault → ((read : List ℕ)
+        × Gives S.left S.given source.old source.new read × (length read ≤ LONGEST)) }
     ensures too_long { result ≡ Status.TooLong → RoseMore LONGEST (S.given source.old) (S.given source.new) }
     ensures not_refused { result ≢ Status.Refused }
 {
