@@ -1,5 +1,7 @@
 //! Worked scripts, answered over ends in memory.
 
+ghost use Rattle.std.specs.Prelude.{◌<◌};
+
 use crate::execution::{Status, run};
 use crate::strategy::{FirstStrategy, Strategy};
 use sf_io::{MemSink, MemSource};
@@ -10,19 +12,34 @@ const FIRST: &[u8] = b"spectral 1\nring 101 x y\nmodule K degrees 0 relations [x
 
 const FIRST_REPLIES: &[u8] = b"ok\nok\nok\ndegrees (0)\nrels (1,1)->(0) [x;y]\n";
 
-/// What a run over this script writes, and how it ends.
-fn answered(alloc: Global, words: &[&str], script: &[u8]) -> Result<(Status, MemSink), Fail> {
+/// What a run over this script writes, and how it ends. Each end moves at most `piece` bytes in a call; the
+/// lists have the numbers of the pulls and of the pushes that fail.
+fn run_over(
+    alloc: Global,
+    words: &[&str],
+    script: &[u8],
+    piece: usize,
+    pulls: &[u32],
+    pushes: &[u32],
+) -> Result<(Status, MemSink), Fail>
+    requires { 0 < piece }
+{
     let mut given = Vec::new(alloc);
     for word in words {
         given.push(String::from_str(alloc, word)?)?;
     }
     let mut strategies: Vec<Box<dyn Strategy>> = Vec::new(alloc);
     strategies.push(Box::new(alloc, FirstStrategy)?)?;
-    let mut source = MemSource::new(Vec::from_slice(alloc, script)?, 4096, Vec::new(alloc));
-    let mut sink = MemSink::new(alloc, 4096, Vec::new(alloc));
+    let bytes = Vec::from_slice(alloc, script)?;
+    let mut source = MemSource::new(bytes, piece, Vec::from_slice(alloc, pulls)?);
+    let mut sink = MemSink::new(alloc, piece, Vec::from_slice(alloc, pushes)?);
     sink.reserve(4096)?;
     let status = run(alloc, given.as_slice(), &mut source, &mut sink, strategies);
     Ok((status, sink))
+}
+
+fn answered(alloc: Global, words: &[&str], script: &[u8]) -> Result<(Status, MemSink), Fail> {
+    run_over(alloc, words, script, 4096, &[], &[])
 }
 
 #[test]
@@ -74,6 +91,40 @@ fn refuses_words(rt: HostRuntime) -> Result<(), Fail> {
     for words in cases {
         let (status, sink) = answered(rt.alloc(), words, FIRST)?;
         assert_eq!(rt; status, Status::Usage);
+        assert_eq!(rt; sink.bytes(), b"".as_slice());
+    }
+    Ok(())
+}
+
+#[test]
+fn tells_a_failing_source(rt: HostRuntime) -> Result<(), Fail> {
+    for k in 1..=FIRST.len() as u32 + 1 {
+        let (status, sink) = run_over(rt.alloc(), &["run"], FIRST, 1, &[k], &[])?;
+        assert_eq!(rt; status, Status::ReadFault, "pull {k}");
+        assert_eq!(rt; sink.bytes(), b"".as_slice());
+    }
+    Ok(())
+}
+
+#[test]
+fn tells_a_failing_sink(rt: HostRuntime) -> Result<(), Fail> {
+    for written in 0..=FIRST_REPLIES.len() {
+        let push = written as u32 + 1;
+        let (status, sink) = run_over(rt.alloc(), &["run"], FIRST, 1, &[], &[push])?;
+        let whole = written == FIRST_REPLIES.len();
+        let wanted = if whole { Status::Done } else { Status::WriteFault };
+        assert_eq!(rt; status, wanted, "push {push}");
+        assert_eq!(rt; sink.bytes(), &FIRST_REPLIES[..written]);
+    }
+    Ok(())
+}
+
+#[test]
+fn limits_the_length(rt: HostRuntime) -> Result<(), Fail> {
+    for (length, wanted) in [(1_048_576, Status::Done), (1_048_577, Status::TooLong)] {
+        let script = vec![in rt.alloc(); b'#'; length]?;
+        let (status, sink) = answered(rt.alloc(), &["run"], script.as_slice())?;
+        assert_eq!(rt; status, wanted);
         assert_eq!(rt; sink.bytes(), b"".as_slice());
     }
     Ok(())
