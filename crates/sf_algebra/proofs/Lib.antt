@@ -2,6 +2,7 @@ pub mod Lists
 pub mod Descending
 pub mod MonomialEquality
 pub mod Orders
+pub mod Products
 pub mod Drops
 pub mod Factors
 pub mod Entries

@@ -1,5 +1,6 @@
 pub mod Residues
 pub mod Monomials
+pub mod Products
 pub mod Orders
 pub mod Terms
 pub mod Sums

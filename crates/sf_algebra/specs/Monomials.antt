@@ -35,6 +35,10 @@ from_exponents es = record {
 abbrev pub one : Monomial
 one = from_exponents []
 
+-- the product, whose exponents are the sums of the factors' exponents
+abbrev pub product : Monomial → Monomial → Monomial
+product a b = record { e1 = a.e1 + b.e1; e2 = a.e2 + b.e2; e3 = a.e3 + b.e3; e4 = a.e4 + b.e4; e5 = a.e5 + b.e5; e6 = a.e6 + b.e6 }
+
 -- the variable at place i, counted from 0
 abbrev pub variable : ℕ → Monomial
 variable i = from_exponents (slice_set (replicate VARIABLES 0) i 1)

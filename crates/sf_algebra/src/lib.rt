@@ -5,7 +5,9 @@
 #![tactic(auto)]
 
 mod order;
+mod product;
 mod sum;
 
 pub use order::{monomial_order, place_order};
+pub use product::monomial_products;
 pub use sum::{polynomial_sums, vector_sums};

@@ -1,7 +1,7 @@
-ghost use Rattle.std.specs.Prelude.{◌≡◌, ◌<◌, ◌≤◌, ◌↔◌, IsSome, IfSome, sum, slice_index, refl};
+ghost use Rattle.std.specs.Prelude.{◌≡◌, ◌+◌, ◌<◌, ◌≤◌, ◌↔◌, IsSome, IfSome, sum, slice_index, refl};
 ghost use Rattle.std.specs.Cmp.{partial_order_from_agreeing_total};
 ghost use Rattle.std.specs.Ordering.{as_partial_cmp};
-ghost use Rattle.sf_algebra.specs.Monomials.{VARIABLES, one, exponents, from_exponents, exponent_sum, monomial_cmp};
+ghost use Rattle.sf_algebra.specs.Monomials.{VARIABLES, one, product, exponents, from_exponents, exponent_sum, monomial_cmp};
 ghost use Rattle.sf_algebra.proofs.MonomialEquality.{same_exponents-monomial_cmp};
 ghost use Rattle.sf_algebra.proofs.Orders.{monomial_cmp_total};
 
@@ -97,6 +97,23 @@ impl Mono {
             + self.e4 as u32
             + self.e5 as u32
             + self.e6 as u32
+    }
+
+    /// The product, whose exponents are the sums of the factors' exponents.
+    ///
+    /// It fits where the sums of the factors' exponents add to at most 65,535.
+    pub fn mul(self, other: Mono) -> Mono
+        requires { exponent_sum self + exponent_sum other ≤ 65535 }
+        ensures { result ≡ product self other }
+    {
+        Mono {
+            e1: self.e1 + other.e1,
+            e2: self.e2 + other.e2,
+            e3: self.e3 + other.e3,
+            e4: self.e4 + other.e4,
+            e5: self.e5 + other.e5,
+            e6: self.e6 + other.e6,
+        }
     }
 }
 

@@ -31,6 +31,7 @@ fn exponents_up_to_the_bound(rt: HostRuntime) -> Result<(), Fail> {
     for i in 0..6 {
         assert_eq!(rt; a.exponent(i), i as u16);
     }
+    assert_eq!(rt; Some(a.mul(a)), Mono::from_exponents([0, 2, 4, 6, 8, 10]));
     Ok(())
 }
 
