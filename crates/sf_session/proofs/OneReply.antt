@@ -6,7 +6,7 @@ use Rattle.sf_session.specs.State.{State, ring_of, opens, enters, module_named, 
 use Rattle.sf_session.specs.Placed.{relations_of, first_fault}
 use Rattle.std.specs.List.{list_all}
 use Rattle.sf_session.specs.Grammar.{line_of}
-use Rattle.sf_session.specs.Replies.{Gives, Carried, Answered, Step, ok_text, syntax_text, later_text, module_text, can_define}
+use Rattle.sf_session.specs.Replies.{Gives, Carried, Answered, Step, syntax_text, later_text, can_define}
 use Rattle.sf_session.specs.declared.command.Command.{Command}
 use Rattle.sf_session.specs.declared.command.Command.TheVariants.{Spectral, Ring, Module, Show, Later}
 use Rattle.sf_session.specs.declared.command.Line.{Line}

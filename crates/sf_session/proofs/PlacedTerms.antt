@@ -1,5 +1,5 @@
 -- The monomial and the coefficient that a written term means.
-use Rattle.std.proofs.Common.{◌≡◌, ◌≢◌, ℕ, zero, suc, ◌+◌, ◌*◌, ◌<◌, ◌≤◌, if◌then◌else◌, Bool, true, false, List, [], ◌∷◌, length, map, drop, get_or, set, sum, get_or-set_same, get_or-set_other, length-set, below_more, refl, sym, ◌∙◌, ap, arith, ⊎_elim}
+use Rattle.std.proofs.Common.{◌≡◌, ◌≢◌, ℕ, suc, ◌+◌, ◌*◌, ◌<◌, ◌≤◌, if◌then◌else◌, Bool, true, false, List, [], ◌∷◌, length, map, drop, get_or, set, sum, get_or-set_same, get_or-set_other, length-set, below_more, refl, sym, ◌∙◌, ap, arith, ⊎_elim}
 use Rattle.std.specs.List.{AllByRecursion}
 use Rattle.std.specs.Str.{bytes_eq}
 use Rattle.std.proofs.lemmas.Bool.{cases_lt}
@@ -7,7 +7,7 @@ use Rattle.std.proofs.lemmas.List.{get_or_past, get_or-map, get_or_read, length-
 use Rattle.std.proofs.lemmas.List.Sums.{sum_by-cons, sum_by-drop_more}
 use Rattle.sf_field.specs.Residues.{negative_mod as field_negative_mod}
 use Rattle.sf_algebra.specs.Residues.{negative_mod}
-use Rattle.sf_algebra.specs.Monomials.{Monomial, from_exponents}
+use Rattle.sf_algebra.specs.Monomials.{from_exponents}
 use Rattle.sf_session.specs.Placed.{exponent_in, monomial_of}
 
 -- the negative of a residue of the field is that of the algebra

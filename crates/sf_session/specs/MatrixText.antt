@@ -1,9 +1,7 @@
 -- How a matrix is written. Its text is cut at the semicolons into rows, at the commas into entries, at the signs into terms, at the
 -- stars into factors, and at the caret into a name and its exponent.
-use Rattle.std.specs.Prelude.{ℕ, Bool, true, false, ◌-◌, ◌&&◌, ◌||◌, ◌==◌, nat_le, if◌then◌else◌, Option, Some, None, option_and_then, List, [], ◌∷◌, length, take, drop, slice_index, codes}
+use Rattle.std.specs.Prelude.{ℕ, Bool, true, false, ◌-◌, ◌&&◌, ◌||◌, ◌==◌, nat_le, if◌then◌else◌, Option, Some, None, option_and_then, List, [], ◌∷◌, length, take, drop, slice_index}
 use Rattle.std.specs.Option.{option_map}
-use Rattle.std.specs.List.{onto_first}
-use Rattle.std.specs.Str.{bytes_eq}
 use Rattle.sf_algebra.specs.Printing.{comma, semicolon, plus, star}
 use Rattle.sf_session.specs.Words.{parts, before, behind, begins_with, is_name, is_number, are_digits, number_value}
 use Rattle.sf_session.specs.Raw.{RawTerm}

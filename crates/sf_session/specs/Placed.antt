@@ -1,7 +1,7 @@
 -- What a matrix means that a script writes, in a ring and over a free module.
-use Rattle.std.specs.Prelude.{ℕ, zero, suc, Bool, true, false, ◌+◌, ◌%◌, ◌&&◌, ◌==◌, if◌then◌else◌, Option, Some, None, List, [], ◌∷◌, ◌++◌, length, map, sum_by, ℤ, pos, neg_ℤ, int_le}
+use Rattle.std.specs.Prelude.{ℕ, Bool, ◌+◌, ◌%◌, ◌&&◌, ◌==◌, if◌then◌else◌, Option, Some, None, List, [], ◌∷◌, ◌++◌, length, map, sum_by, ℤ, pos, neg_ℤ, int_le}
 use Rattle.std.specs.Ordering.{int_eq}
-use Rattle.std.specs.List.{list_all, list_any}
+use Rattle.std.specs.List.{list_all}
 use Rattle.std.specs.Str.{bytes_eq}
 use Rattle.sf_algebra.specs.Residues.{negative_mod}
 use Rattle.sf_algebra.specs.Monomials.{Monomial, from_exponents}

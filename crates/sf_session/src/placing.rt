@@ -1,4 +1,5 @@
 //! What a matrix means that a script writes, in a ring and over a free module.
+
 mod row;
 mod rows;
 mod shape;

@@ -112,7 +112,11 @@ fn tells_a_failing_sink(rt: HostRuntime) -> Result<(), Fail> {
         let push = written as u32 + 1;
         let (status, sink) = run_over(rt.alloc(), &["run"], FIRST, 1, &[], &[push])?;
         let whole = written == FIRST_REPLIES.len();
-        let wanted = if whole { Status::Done } else { Status::WriteFault };
+        let wanted = if whole {
+            Status::Done
+        } else {
+            Status::WriteFault
+        };
         assert_eq!(rt; status, wanted, "push {push}");
         assert_eq!(rt; sink.bytes(), &FIRST_REPLIES[..written]);
     }

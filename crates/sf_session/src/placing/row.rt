@@ -101,8 +101,5 @@ fn generator_degree(degrees: &[i32], position: usize) -> i32
     ensures degree { result ≡ generator_degree degrees.now position }
     ensures written { IsTrue (is_written_degree result) }
 {
-    match degrees.get(position) {
-        None => 0,
-        Some(degree) => *degree,
-    }
+    degrees.get(position).copied().unwrap_or(0)
 }

@@ -1,4 +1,4 @@
-use Rattle.std.proofs.Common.{◌≡◌, true, length, ap, sym, ◌∙◌, zero-add, rules}
+use Rattle.std.proofs.Common.{◌≡◌, true, length, ◌∙◌, zero-add, rules}
 use Rattle.std.specs.List.{list_all}
 use Rattle.std.specs.Ordering.{int_eq}
 use Rattle.sf_algebra.specs.Vectors.{term_degree}

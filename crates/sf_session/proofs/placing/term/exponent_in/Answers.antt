@@ -1,5 +1,4 @@
-use Rattle.std.proofs.Common.{◌≤◌, ◌+◌, ◌∙◌, sym, arith}
-use Rattle.sf_session.specs.Placed.{exponent_in}
+use Rattle.std.proofs.Common.{◌∙◌, sym, arith}
 use Rattle.sf_session.proofs.PlacedTerms.{exponent_in-fits, exponent_in-le}
 use Rattle.sf_session.proofs.placing.term.exponent_in.Goals as goal
 
