@@ -1,5 +1,5 @@
 ghost use Rattle.std.specs.Prelude.{◌≡◌, IsTrue, SomeIff, option_copied};
-ghost use Rattle.sf_session.specs.State.{ring_of, opens, enters, is_among, are_distinct};
+ghost use Rattle.sf_session.specs.State.{ring_of, opens, enters, are_distinct};
 
 use crate::heads::{Heads, Ring};
 use sf_field::Modulus;

@@ -3,7 +3,7 @@ ghost use Rattle.std.specs.List.{AllByRecursion};
 ghost use Rattle.std.specs.Option.{option_map};
 ghost use Rattle.sf_algebra.specs.Printing.{star};
 ghost use Rattle.sf_session.specs.Words.{parts, parts_left};
-ghost use Rattle.sf_session.specs.MatrixText.{is_sign, all_of, signed_left, exponent_of, factor_of, with_factors, term_of, signed_parts, entry_of, row_of, rows_of, matrix_of};
+ghost use Rattle.sf_session.specs.MatrixText.{is_sign, all_of, signed_left, exponent_of, factor_of, with_factors, term_of, signed_parts, entry_of, row_of, matrix_of};
 
 use crate::raw::{RawMatrix, RawTerm};
 use crate::reading::make_name;
@@ -144,8 +144,8 @@ fn read_terms(alloc: Global, minus: bool, text: &[u8]) -> Result<Option<List<Raw
     Ok(Some(terms))
 }
 
-#[tactic(auto, using(crate::proofs::Signs::sign_rules))]
 /// The text before the first sign, and that sign with the text behind it, if there is one.
+#[tactic(auto, using(crate::proofs::Signs::sign_rules))]
 fn next_signed_part(text: &[u8]) -> (&[u8], Option<(bool, &[u8])>)
     ensures cut { (negative : Bool) → signed_parts negative text.now ≡ (negative, result.0.now) ∷ signed_left (option_map (λ r. (r.0, r.1.now)) result.1) }
     ensures shorter { IfSome result.1 (λ r. length r.1.now < length text.now) }

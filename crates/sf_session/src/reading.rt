@@ -1,4 +1,4 @@
-ghost use Rattle.std.specs.Prelude.{◌≡◌, IsTrue, IfSome, IfOk, SomeIff, option_copied, option_and_then, map, codes};
+ghost use Rattle.std.specs.Prelude.{◌≡◌, IsTrue, IfSome, IfOk, SomeIff, option_copied, map};
 ghost use Rattle.std.specs.List.{list_all, list_any};
 ghost use Rattle.std.specs.Option.{option_map};
 ghost use Rattle.std.specs.Str.{bytes_eq};

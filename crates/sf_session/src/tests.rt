@@ -120,6 +120,11 @@ fn tells_a_failing_sink(rt: HostRuntime) -> Result<(), Fail> {
         assert_eq!(rt; status, wanted, "push {push}");
         assert_eq!(rt; sink.bytes(), &FIRST_REPLIES[..written]);
     }
+
+    // Each reply is one push where the sink takes it whole.
+    let (status, sink) = run_over(rt.alloc(), &["run"], FIRST, 4096, &[], &[2])?;
+    assert_eq!(rt; status, Status::WriteFault);
+    assert_eq!(rt; sink.bytes(), b"ok\n".as_slice());
     Ok(())
 }
 
