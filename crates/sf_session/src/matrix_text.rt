@@ -1,5 +1,5 @@
-ghost use Rattle.std.specs.Prelude.{◌≡◌, ◌<◌, ◌≤◌, ◌∷◌, Bool, length, List, ℕ, Option, IfSome, IfOk, option_copied, position};
-ghost use Rattle.std.specs.List.{AllByRecursion};
+ghost use Rattle.std.specs.Prelude.{◌≡◌, ◌<◌, ◌≤◌, ◌∷◌, ◌==◌, Bool, length, List, ℕ, Option, IfSome, IfOk, option_copied, position};
+ghost use Rattle.std.specs.List.{AllByRecursion, count_by};
 ghost use Rattle.std.specs.Option.{option_map};
 ghost use Rattle.sf_algebra.specs.Printing.{star};
 ghost use Rattle.sf_session.specs.Words.{parts, parts_left};
@@ -45,9 +45,17 @@ fn read_parts<W: Written>(
 }
 
 /// The number of parts, for which room is made at once: a matrix has very many short lists.
-fn part_count(text: &[u8], separator: u8) -> usize {
-    let separators = text.iter().filter(|byte| **byte == separator).count();
-    separators.saturating_add(1)
+fn part_count(text: &[u8], separator: u8) -> usize
+    ensures { result ≡ length (parts separator text.now) }
+{
+    count(text, separator) + 1
+}
+
+fn count(text: &[u8], byte: u8) -> usize
+    ensures count { result ≡ count_by (λ b. b == byte) text.now }
+    ensures within { result ≤ length text.now }
+{
+    text.iter().filter(|b| **b == byte).count()
 }
 
 impl Written for (Name, u16) {
