@@ -7,8 +7,7 @@ use Rattle.std.specs.List.{AllByRecursion, cons_option}
 use Rattle.std.proofs.lemmas.Bool.Decides.{nat_tests}
 use Rattle.sf_algebra.specs.Terms.{Term, IsDescending}
 use Rattle.sf_algebra.specs.Monomials.{Monomial}
-use Rattle.sf_algebra.specs.Vectors.{Place, place_cmp}
-use Rattle.sf_algebra.specs.Printing.{entry}
+use Rattle.sf_algebra.specs.Vectors.{Place, place_cmp, entry}
 use Rattle.sf_algebra.proofs.Lists.{AllByRecursion-weaken}
 
 -- a term of a vector without its position

@@ -7,6 +7,8 @@ pub mod Drops
 pub mod Factors
 pub mod Entries
 pub mod Residues
+pub mod Primes
+pub mod Inverses
 pub mod Totals
 pub mod Normal
 pub mod Coefficients

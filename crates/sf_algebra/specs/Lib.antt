@@ -1,4 +1,6 @@
 pub mod Residues
+pub mod Primes
+pub mod Fields
 pub mod Monomials
 pub mod Products
 pub mod Orders
@@ -8,3 +10,6 @@ pub mod SumLaws
 pub mod Vectors
 pub mod Matrices
 pub mod Printing
+pub mod Multiples
+pub mod Polynomials
+pub mod MatrixOperations

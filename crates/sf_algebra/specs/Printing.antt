@@ -1,10 +1,10 @@
 -- How degrees, polynomials and matrices print. A name is the list of its bytes; names gives the ring's variables in order.
-use Rattle.std.specs.Prelude.{ℕ, zero, suc, ◌==◌, if◌then◌else◌, List, [], ◌∷◌, ◌++◌, length, map, ℤ, codes, decimal, Some, None, filter_map}
+use Rattle.std.specs.Prelude.{ℕ, zero, suc, ◌==◌, if◌then◌else◌, List, [], ◌∷◌, ◌++◌, length, map, ℤ, codes, decimal}
 use Rattle.std.specs.Fmt.{signed_decimal}
 use Rattle.std.specs.List.{join_with_byte, range_with_len}
 use Rattle.sf_algebra.specs.Monomials.{Monomial, exponents, exponent_sum}
 use Rattle.sf_algebra.specs.Terms.{Term}
-use Rattle.sf_algebra.specs.Vectors.{Place, Vector}
+use Rattle.sf_algebra.specs.Vectors.{Place, Vector, entry}
 use Rattle.sf_algebra.specs.Matrices.{Matrix, row_degrees}
 
 abbrev pub comma : ℕ
@@ -43,10 +43,6 @@ term_text names t =
 abbrev pub polynomial_text : List (List ℕ) → List (Term Monomial) → List ℕ
 polynomial_text names [] = codes "0"
 polynomial_text names (t ∷ ts) = join_with_byte plus (map (term_text names) (t ∷ ts))
-
--- a vector's polynomial at a position
-abbrev pub entry : ℕ → List (Term Place) → List (Term Monomial)
-entry i = filter_map (λ t. if t.at.position == i then Some (record { at = t.at.monomial; coefficient = t.coefficient }) else None)
 
 -- a row of a matrix with this many columns
 abbrev pub row_text : List (List ℕ) → ℕ → List (Term Place) → List ℕ

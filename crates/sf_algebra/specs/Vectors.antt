@@ -1,6 +1,6 @@
 -- Homogeneous vectors of a free module. A free module is the list of its generators' degrees. (Textbook; position over
 -- term is the order of Cox, Little, O'Shea, "Using Algebraic Geometry", chapter 5, section 2.)
-use Rattle.std.specs.Prelude.{◌≡◌, ℕ, ◌<◌, List, [], ◌∷◌, length, slice_index_or, ℤ, pos, ◌+ℤ◌}
+use Rattle.std.specs.Prelude.{◌≡◌, ◌==◌, if◌then◌else◌, ℕ, ◌<◌, List, [], ◌∷◌, length, slice_index_or, filter_map, Some, None, ℤ, pos, ◌+ℤ◌}
 use Rattle.std.specs.declared.cmp.Ordering.{Ordering}
 use Rattle.std.specs.Ordering.{nat_cmp, on, flip_args, then_cmp}
 use Rattle.std.specs.List.{AllByRecursion}
@@ -38,6 +38,10 @@ IsTermOfDegree degrees d t = (t.at.position < length degrees) × (d ≡ term_deg
 -- all terms have degree d
 abbrev pub IsHomogeneous : List ℤ → ℤ → List (Term Place) → Type 0
 IsHomogeneous degrees d = AllByRecursion (IsTermOfDegree degrees d)
+
+-- a vector's polynomial at a position
+abbrev pub entry : ℕ → List (Term Place) → List (Term Monomial)
+entry i = filter_map (λ t. if t.at.position == i then Some (record { at = t.at.monomial; coefficient = t.coefficient }) else None)
 
 -- the degree of a row that is written without one: that of its first term, and 0 where there is none
 abbrev pub row_degree : List ℤ → List (Term Place) → ℤ

@@ -1,4 +1,2 @@
-pub mod Inverses
 pub mod Moduli
-pub mod Primes
-pub mod Residues
+pub mod Programs

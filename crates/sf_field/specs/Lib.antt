@@ -1,4 +1,1 @@
-pub mod Field
 pub mod Moduli
-pub mod Primes
-pub mod Residues

@@ -1,8 +1,8 @@
 //! What holds of the moduli and their residues, each as the contract of a function that does nothing.
 
-ghost use Rattle.sf_field.specs.Field.{HasNoZeroDivisors, HasUniqueInverses, IsField};
+ghost use Rattle.sf_algebra.specs.Fields.{HasNoZeroDivisors, HasUniqueInverses, IsField};
 ghost use Rattle.sf_field.specs.Moduli.{EachModulus};
-ghost use Rattle.sf_field.specs.Primes.{IsPrime};
+ghost use Rattle.sf_algebra.specs.Primes.{IsPrime};
 
 /// Each modulus is a prime.
 pub fn moduli_are_primes()

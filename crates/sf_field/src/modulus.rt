@@ -1,7 +1,7 @@
 ghost use Rattle.std.specs.Prelude.{◌≡◌, ℕ, ◌<◌, ◌≤◌, ◌↔◌, IsSome, IfSome};
 ghost use Rattle.sf_field.specs.Moduli.{IsModulus};
-ghost use Rattle.sf_field.specs.Primes.{IsPrime};
-ghost use Rattle.sf_field.specs.Residues.{sum_mod, negative_mod, product_mod};
+ghost use Rattle.sf_algebra.specs.Primes.{IsPrime};
+ghost use Rattle.sf_algebra.specs.Residues.{sum_mod, negative_mod, product_mod};
 
 use std::marker::Model;
 
@@ -52,7 +52,7 @@ impl Modulus {
     }
 
     /// The sum of two residues.
-    #[tactic(auto, using(crate::proofs::Residues::additions))]
+    #[tactic(auto, using(crate::proofs::Programs::additions))]
     pub fn add(self, a: u32, b: u32) -> u32
         requires left { a < self }
         requires right { b < self }
@@ -65,7 +65,7 @@ impl Modulus {
     }
 
     /// The negative of a residue.
-    #[tactic(auto, using(crate::proofs::Residues::negatives))]
+    #[tactic(auto, using(crate::proofs::Programs::negatives))]
     pub fn neg(self, a: u32) -> u32
         requires { a < self }
         ensures negative { result ≡ negative_mod self a }
@@ -75,7 +75,7 @@ impl Modulus {
     }
 
     /// The product of two residues.
-    #[tactic(auto, unfolding(crate::specs::Residues::product_mod))]
+    #[tactic(auto, unfolding(sf_algebra::specs::Residues::product_mod))]
     pub fn mul(self, a: u32, b: u32) -> u32
         requires left { a < self }
         requires right { b < self }

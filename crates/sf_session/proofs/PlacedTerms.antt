@@ -5,17 +5,8 @@ use Rattle.std.specs.Str.{bytes_eq}
 use Rattle.std.proofs.lemmas.Bool.{cases_lt}
 use Rattle.std.proofs.lemmas.List.{get_or_past, get_or-map, get_or_read, length-map}
 use Rattle.std.proofs.lemmas.List.Sums.{sum_by-cons, sum_by-drop_more}
-use Rattle.sf_field.specs.Residues.{negative_mod as field_negative_mod}
-use Rattle.sf_algebra.specs.Residues.{negative_mod}
 use Rattle.sf_algebra.specs.Monomials.{from_exponents}
 use Rattle.sf_session.specs.Placed.{exponent_in, monomial_of}
-
--- the negative of a residue of the field is that of the algebra
-pub field_negative_mod-is : (p a : ℕ) → field_negative_mod p a ≡ negative_mod p a
-unfolding negative_mod field_negative_mod
-field_negative_mod-is p a = refl
-
-pub ruleset residue_rules = (field_negative_mod-is)
 
 -- factors with exponents of at most three digits
 abbrev pub HasSmallExponents : List (List ℕ × ℕ) → Type 0

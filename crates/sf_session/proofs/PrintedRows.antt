@@ -5,8 +5,8 @@ use Rattle.std.proofs.lemmas.List.{take-append-drop}
 use Rattle.std.proofs.lemmas.List.FromFn.{length-range_with_len, get_or-range_with_len}
 use Rattle.std.proofs.lemmas.Option.{slice_get-get_or}
 use Rattle.sf_algebra.specs.Terms.{Term, IsDescending}
-use Rattle.sf_algebra.specs.Vectors.{Place, place_cmp}
-use Rattle.sf_algebra.specs.Printing.{entry, polynomial_text, row_text, comma}
+use Rattle.sf_algebra.specs.Vectors.{Place, place_cmp, entry}
+use Rattle.sf_algebra.specs.Printing.{polynomial_text, row_text, comma}
 use Rattle.sf_algebra.proofs.Lists.{AllByRecursion-weaken}
 use Rattle.sf_algebra.proofs.Drops.{drop-slice_get}
 use Rattle.sf_algebra.proofs.Descending.{IsDescending-back}

@@ -2,8 +2,7 @@
 use Rattle.std.specs.Prelude.{◌≡◌, ℕ, ◌<◌, ◌≤◌, List, drop}
 use Rattle.std.specs.List.{AllByRecursion}
 use Rattle.sf_algebra.specs.Terms.{Term}
-use Rattle.sf_algebra.specs.Vectors.{Place}
-use Rattle.sf_algebra.specs.Printing.{entry}
+use Rattle.sf_algebra.specs.Vectors.{Place, entry}
 
 -- each term from number k on stands at this column or a later one
 abbrev pub IsFromColumn : ℕ → ℕ → List (Term Place) → Type 0

@@ -20,7 +20,6 @@ pub fn placed_term(ring: &Ring, column: u64, term: &RawTerm) -> Term
 }
 
 /// The residue of the coefficient with its sign.
-#[tactic(auto, using(crate::proofs::PlacedTerms::residue_rules))]
 fn residue_of(modulus: Modulus, term: &RawTerm) -> u32
     ensures { result ≡ residue_of modulus term.now }
 {

@@ -1,5 +1,6 @@
 ghost use Rattle.std.specs.Prelude.{◌≡◌, ◌+◌, ◌^◌, ◌<◌, ◌∷◌, ◌++◌, drop, length, IfSome, IfNone, IsSome, IfOk, OnOk};
-ghost use Rattle.sf_algebra.specs.Printing.{entry, polynomial_text, row_text};
+ghost use Rattle.sf_algebra.specs.Printing.{polynomial_text, row_text};
+ghost use Rattle.sf_algebra.specs.Vectors.{entry};
 ghost use Rattle.sf_session.specs.Columns.{IsFromColumn, SameEntriesPast};
 
 use crate::printing::joins::separate;

@@ -4,7 +4,6 @@ use Rattle.sf_algebra.specs.Vectors.{place_cmp}
 use Rattle.sf_algebra.proofs.Merge.{IsMerging-Greater, IsMerging-Less, IsMerging-Equal, IsMerging-end, canonical_sum}
 use Rattle.sf_algebra.proofs.Orders.{place_cmp_linear}
 use Rattle.sf_algebra.proofs.Slices.{first_and_rest}
-use Rattle.sf_matrix.proofs.SumLemmas.{field_sum_mod-is}
 use Rattle.sf_matrix.proofs.sums.add_terms.Goals as goal
 use Rattle.sf_matrix.proofs.sums.add_terms.Goals.{in_default, in_default-2}
 
@@ -28,7 +27,6 @@ loop-left-preserved c =
     let right = first_and_rest c.loop-left.right.now c.u-item.result (search rules) c.u-item.is in
     let coefficient =
     c.add-coefficient.ensures.sum
-    ∙ field_sum_mod-is c.args.modulus c.t.inside.coefficient c.u.inside.coefficient
     ∙ (λ i. sum_mod c.args.modulus (c.t.view_is i).coefficient (c.u.view_is i).coefficient) in
     rw c.in_ok-push_nonzero-in-Equal.ensures.ok
     (IsMerging-Equal place_cmp place_cmp_linear _ _ _ _ _ c.loop-left.invariant _ _ _ _ left right _ (λ i. (c.t.view_is i).at) coefficient (sym c.cmp_place.ensures ∙ c.in-Equal.is))

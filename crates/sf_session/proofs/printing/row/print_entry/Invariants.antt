@@ -1,5 +1,6 @@
 use Rattle.std.proofs.Common.{◌≡◌, ◌++◌, ◌-◌, ◌≤◌, drop, length, ltb}
-use Rattle.sf_algebra.specs.Printing.{entry, polynomial_text}
+use Rattle.sf_algebra.specs.Printing.{polynomial_text}
+use Rattle.sf_algebra.specs.Vectors.{entry}
 use Rattle.sf_session.specs.Columns.{IsFromColumn, SameEntriesPast}
 use Rattle.sf_session.proofs.PrintedTerms.{polynomial_from}
 use Rattle.sf_session.proofs.printing.row.print_entry.Given as goal

@@ -1,5 +1,6 @@
 use Rattle.std.proofs.Common.{◌≡◌, ◌++◌, ℕ, ◌≤◌, drop}
-use Rattle.sf_algebra.specs.Printing.{entry, row_text}
+use Rattle.sf_algebra.specs.Printing.{row_text}
+use Rattle.sf_algebra.specs.Vectors.{entry}
 use Rattle.sf_session.specs.Columns.{IsFromColumn}
 use Rattle.sf_session.proofs.PrintedRows.{entries_from}
 use Rattle.sf_session.proofs.printing.row.print_row.Given as goal

@@ -1,7 +1,8 @@
+-- Primes by trial division.
 use Rattle.std.proofs.Common.{◌≡◌, ◌≢◌, ℕ, zero, suc, ◌+◌, ◌*◌, ◌/◌, ◌%◌, ◌<◌, ◌≤◌, Bool, true, not, ◌&&◌, ◌||◌, ◌==◌, inl, inr, sym, ◌∙◌, arith, eq-eqb, eqb-true}
 use Rattle.std.proofs.Math.Nat.{div-add-mod, mul-le-mul, mul-mod_left}
 use Rattle.std.proofs.lemmas.Bool.{and_parts, cases_eq, cases_lt, not-true, or_cases, true≢false}
-use Rattle.sf_field.specs.Primes.{IsPrime}
+use Rattle.sf_algebra.specs.Primes.{IsPrime}
 
 -- whether no number from 2 to n + 1, save p itself, divides p
 unfoldable pub no_factor : ℕ → ℕ → Bool

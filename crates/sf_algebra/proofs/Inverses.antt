@@ -1,11 +1,12 @@
+-- Inverses of residues modulo a prime.
 use Rattle.std.proofs.Common.{◌≡◌, ◌≢◌, ℕ, zero, suc, ◌+◌, ◌-◌, ◌*◌, ◌/◌, ◌%◌, ◌<◌, ◌≤◌, inl, inr, sym, ◌∙◌, ap, refl, arith}
 use Rattle.std.proofs.lemmas.Bool.{cases_eq}
 use Rattle.std.proofs.lemmas.Nat.{mod-mul-add, mul-mod_second}
-use Rattle.std.proofs.Math.Nat.{div-add-mod, div-le_self, mod-lt}
-use Rattle.sf_field.specs.Field.{HasNoZeroDivisors, HasUniqueInverses, IsField}
-use Rattle.sf_field.specs.Primes.{IsPrime}
-use Rattle.sf_field.specs.Residues.{negative_mod, product_mod}
-use Rattle.sf_field.proofs.Residues.{negative_mod-below, product_mod-assoc, product_mod-below, product_mod-comm, product_mod-one, product_mod-sum, product_mod-zero, sum_mod-assoc, sum_mod-below, sum_mod-comm, sum_mod-negative, sum_mod-zero}
+use Rattle.std.proofs.Math.Nat.{div-add-mod, div-le_self, mod-eq_of_lt, mod-lt}
+use Rattle.sf_algebra.specs.Fields.{HasNoZeroDivisors, HasUniqueInverses, IsField}
+use Rattle.sf_algebra.specs.Primes.{IsPrime}
+use Rattle.sf_algebra.specs.Residues.{negative_mod, product_mod}
+use Rattle.sf_algebra.proofs.Residues.{negative_mod-below, product_mod-assoc, product_mod-below, product_mod-comm, product_mod-one, product_mod-sum, product_mod-zero, sum_mod-assoc, sum_mod-below, sum_mod-comm, sum_mod-negative, sum_mod-zero}
 
 negative_product : (a s q r p : ℕ) → s + q ≡ p → suc a * q + r ≡ p → suc a * s ≡ a * p + r
 negative_product a s q r p sum whole = omega (arith, ap (λ x. suc a * x) sum)
@@ -32,7 +33,7 @@ reaches_itself p a positive below = record {
   positive = positive;
   rest_below = below;
   factor_below = omega arith;
-  product = product_mod-one p a below;
+  product = product_mod-one p a ∙ mod-eq_of_lt below;
 }
 
 -- one division leads to a smaller remainder
@@ -70,12 +71,13 @@ product_mod-inverse p a b n inverse below =
     sym (product_mod-assoc p a b n)
     ∙ ap (λ m. product_mod p m n) inverse
     ∙ product_mod-comm p 1 n
-    ∙ product_mod-one p n below
+    ∙ product_mod-one p n
+    ∙ mod-eq_of_lt below
 
 -- a residue has at most one inverse
 pub inverse_unique : (p : ℕ) → HasUniqueInverses p
 inverse_unique p a b c b_below c_below with_b with_c =
-    sym (product_mod-one p b b_below)
+    sym (product_mod-one p b ∙ mod-eq_of_lt b_below)
     ∙ ap (product_mod p b) (sym with_c)
     ∙ product_mod-inverse p b a c (product_mod-comm p b a ∙ with_b) c_below
 
@@ -104,13 +106,13 @@ field_of_residues p prime =
       sum_below = λ a b. sum_mod-below p a b positive;
       sum_commutes = sum_mod-comm p;
       sum_associates = sum_mod-assoc p;
-      sum_with_zero = sum_mod-zero p;
+      sum_with_zero = λ a below. sum_mod-zero p a ∙ mod-eq_of_lt below;
       negative_below = λ a. negative_mod-below p a positive;
       sum_with_negative = sum_mod-negative p;
       product_below = λ a b. product_mod-below p a b positive;
       product_commutes = product_mod-comm p;
       product_associates = product_mod-assoc p;
-      product_with_one = product_mod-one p;
+      product_with_one = λ a below. product_mod-one p a ∙ mod-eq_of_lt below;
       product_distributes = product_mod-sum p;
       inverse = inverse_exists p prime;
     }

@@ -1,3 +1,4 @@
+-- Prime numbers. (Any textbook of algebra.)
 use Rattle.std.specs.Prelude.{◌≢◌, ℕ, ◌<◌, ◌%◌}
 
 -- a number above 1 that no number strictly between 1 and itself divides

@@ -1,5 +1,6 @@
+-- What holds of the residues modulo a prime. (Any textbook of algebra.)
 use Rattle.std.specs.Prelude.{◌≡◌, ℕ, ◌<◌, ◌⊎◌}
-use Rattle.sf_field.specs.Residues.{sum_mod, negative_mod, product_mod}
+use Rattle.sf_algebra.specs.Residues.{sum_mod, negative_mod, product_mod}
 
 -- the residues modulo p, with sum, negative and product, are a field; a law without a bound holds of all numbers
 pub record IsField (p : ℕ) : Type 0 where
