@@ -12,6 +12,7 @@ pub mod Inverses
 pub mod Totals
 pub mod Normal
 pub mod Coefficients
+pub mod Canonical
 pub mod Sums
 pub mod Merge
 pub mod Slices

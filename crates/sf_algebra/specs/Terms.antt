@@ -23,3 +23,8 @@ IsNonzeroResidue p t = (0 < t.coefficient) × (t.coefficient < p)
 pub record IsCanonical {K : Type 0} (cmp : K → K → Ordering) (p : ℕ) (ts : List (Term K)) : Type 0 where
   pub descending : IsDescending cmp ts
   pub residues : AllByRecursion (IsNonzeroResidue p) ts
+
+-- what stands at k is greater than the first term, where there is one
+abbrev pub IsAboveFirst : {K : Type 0} → (K → K → Ordering) → K → List (Term K) → Type 0
+IsAboveFirst cmp k [] = Unit {0}
+IsAboveFirst cmp k (t ∷ ts) = cmp t.at k ≡ Less

@@ -1,6 +1,6 @@
-ghost use Rattle.std.specs.Prelude.{◌≡◌, [], ◌++◌, IfOk, OnOk, OnErr};
+ghost use Rattle.std.specs.Prelude.{◌≡◌, ◌↔◌, [], ◌++◌, IfOk, OnOk, OnErr, IsTrue};
 ghost use Rattle.sf_algebra.specs.Sums.{put, normal, add};
-ghost use Rattle.sf_algebra.specs.Terms.{IsCanonical};
+ghost use Rattle.sf_algebra.specs.Terms.{IsCanonical, IsNonzeroResidue, IsAboveFirst};
 ghost use Rattle.sf_algebra.specs.Vectors.{place_cmp};
 
 use crate::vector::{Term, Vector};
@@ -67,7 +67,40 @@ pub fn add_terms(
     Ok(sum)
 }
 
+/// Whether a list of terms is the canonical list of what it means.
+fn are_canonical(modulus: Modulus, terms: &[Term]) -> bool
+    ensures { IsTrue result ↔ IsCanonical place_cmp modulus terms.now }
+{
+    let mut rest = terms;
+    while let [t, others @ ..] = rest {
+        if !is_nonzero_residue(modulus, t) || !is_above(t, others) {
+            return false;
+        }
+        rest = others;
+    }
+    true
+}
+
+/// Whether the coefficient is a residue other than 0.
+fn is_nonzero_residue(modulus: Modulus, term: &Term) -> bool
+    ensures { IsTrue result ↔ IsNonzeroResidue modulus term.now }
+{
+    term.coefficient != 0 && term.coefficient < modulus.value()
+}
+
+/// Whether a term is greater than the first of the others, where there is one.
+fn is_above(term: &Term, others: &[Term]) -> bool
+    ensures { IsTrue result ↔ IsAboveFirst place_cmp term.now.at others.now }
+{
+    match others.first() {
+        None => true,
+        Some(other) => other.cmp_place(term) == Ordering::Less,
+    }
+}
+
 /// The canonical list that a list of terms means, in any order and with coefficients of any size.
+///
+/// The halves are summed and merged; a part that is canonical as it stands is taken over.
 pub fn sum_of_terms(
     alloc: Global,
     modulus: Modulus,
@@ -77,6 +110,11 @@ pub fn sum_of_terms(
     ensures canonical { IfOk result (λ v. IsCanonical place_cmp modulus v.items) }
 {
     let p = modulus.value();
+    if are_canonical(modulus, terms) {
+        let mut sum = Vec::with_capacity(alloc, terms.len())?;
+        sum.extend_from_slice(terms)?;
+        return Ok(sum);
+    }
     match terms {
         [] => Ok(Vec::new(alloc)),
         [t] => {

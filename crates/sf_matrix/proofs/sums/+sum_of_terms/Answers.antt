@@ -1,12 +1,19 @@
-use Rattle.std.proofs.Common.{◌≡◌, ◌/◌, ◌%◌, ◌<◌, IfOk, [], ◌++◌, ap, sym, ◌∙◌, arith, length, subst}
+use Rattle.std.proofs.Common.{◌≡◌, ◌/◌, ◌%◌, ◌<◌, IfOk, [], ◌++◌, ap, sym, ◌∙◌, arith, rules, length, subst}
 use Rattle.std.proofs.lemmas.List.{nil_from_length}
 use Rattle.sf_algebra.specs.Sums.{put, normal, add}
+use Rattle.sf_algebra.specs.Terms.{IsCanonical}
 use Rattle.sf_algebra.specs.Vectors.{place_cmp}
 use Rattle.sf_algebra.proofs.Normal.{IsCanonical-normal}
 use Rattle.sf_algebra.proofs.Orders.{place_cmp_linear}
 use Rattle.sf_algebra.proofs.Slices.{only_item}
-use Rattle.sf_algebra.proofs.Sums.{normal-nil, normal-one, normal-halves}
+use Rattle.sf_algebra.proofs.Sums.{normal-canonical, normal-nil, normal-one, normal-halves}
 use Rattle.sf_matrix.proofs.sums.+sum_of_terms.Goals as goal
+
+pub returns-then-are_canonical-clause-sum : goal.returns-then-are_canonical-clause-sum
+returns-then-are_canonical-clause-sum t c =
+    let positive : 0 < c.args.modulus = omega (arith, c.value-p.ensures.above_one, c.value-p.ensures.same) in
+    let canonical : IsCanonical place_cmp c.args.modulus c.args.terms.now = search rules in
+    rw (c.in_ok-extend_from_slice.ensures.items, c.in_ok-sum.ensures.items) (sym (normal-canonical place_cmp place_cmp_linear c.args.modulus positive c.args.terms.now canonical))
 
 pub returns-in-empty : goal.returns-in-empty
 returns-in-empty t c =
