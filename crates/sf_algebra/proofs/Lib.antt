@@ -13,6 +13,7 @@ pub mod Totals
 pub mod Normal
 pub mod Coefficients
 pub mod Canonical
+pub mod Gathering
 pub mod Sums
 pub mod Merge
 pub mod Slices

@@ -11,3 +11,7 @@ place_of position a = record { position = position; monomial = a }
 -- the term with this coefficient there
 abbrev pub term_of : ℕ → Monomial → ℕ → Term Place
 term_of position a c = record { at = place_of position a; coefficient = c }
+
+-- the monomial and the coefficient of a term, as a term of a polynomial
+abbrev pub factor_of : Term Place → Term Monomial
+factor_of t = record { at = t.at.monomial; coefficient = t.coefficient }

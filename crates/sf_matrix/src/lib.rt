@@ -3,6 +3,7 @@
 //! Contracts see each of them as the plain data of `sf_algebra`.
 #![tactic(auto)]
 
+mod combinations;
 mod free;
 mod list;
 mod matrix;
