@@ -3,7 +3,7 @@ ghost use Rattle.std.specs.Cmp.Lexicographic.{pointwise, lists_per, lists_equiv}
 ghost use Rattle.std.specs.Hash as fed;
 ghost use Rattle.std.specs.Hash.{items_Alike};
 
-use sf_field::OutOfMemory;
+use sf_field::{Copied, OutOfMemory};
 use std::alloc::Global;
 use std::hash::{Hash, Hasher};
 use std::marker::Model;
@@ -41,6 +41,19 @@ impl<X> List<X> {
         })
     }
 
+    /// The list of the items of a slice.
+    pub fn from_slice(alloc: Global, items: &[X]) -> Result<List<X>, OutOfMemory>
+    where
+        X: Copied + Drop,
+        ensures items { IfOk result (λ l. l ≡ items.now) }
+    {
+        let mut copies = Vec::with_capacity(alloc, items.len())?;
+        for item in items {
+            copies.push(item.copy(alloc)?)?;
+        }
+        Ok(List { items: copies })
+    }
+
     /// Adds `x` at the end.
     pub fn push(&mut self, x: X) -> Result<(), OutOfMemory>
     where
@@ -71,6 +84,12 @@ impl<X> List<X> {
         ensures empty { IsTrue result ↔ (self.now ≡ []) }
     {
         self.items.is_empty()
+    }
+}
+
+impl<X: Copied + Drop> Copied for List<X> {
+    fn copy(&self, alloc: Global) -> Result<List<X>, OutOfMemory> {
+        List::from_slice(alloc, self.as_slice())
     }
 }
 

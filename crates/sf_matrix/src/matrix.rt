@@ -2,6 +2,12 @@ ghost use Rattle.std.specs.Prelude.{◌≡◌, ◌<◌, [], ◌∷◌, ◌++◌,
 ghost use Rattle.sf_algebra.specs.Vectors.{IsVector};
 ghost use Rattle.sf_algebra.specs.Matrices.{IsMatrix};
 
+mod identity;
+mod negate;
+mod part;
+mod product;
+mod stack;
+
 use crate::free::Free;
 use crate::vector::Vector;
 use sf_field::{Modulus, OutOfMemory};

@@ -4,7 +4,7 @@ ghost use Rattle.std.specs.Hash as fed;
 ghost use Rattle.std.specs.Cmp.Rules.{comparing, hashing};
 ghost use Rattle.std.proofs.Common.{rules};
 
-use sf_field::OutOfMemory;
+use sf_field::{Copied, OutOfMemory};
 use std::alloc::Global;
 use std::hash::{Hash, Hasher};
 use std::marker::Model;
@@ -39,6 +39,12 @@ impl Name {
         ensures bytes { result.now ≡ self.now }
     {
         self.text.as_str()
+    }
+}
+
+impl Copied for Name {
+    fn copy(&self, alloc: Global) -> Result<Name, OutOfMemory> {
+        Name::from_text(alloc, self.as_str())
     }
 }
 

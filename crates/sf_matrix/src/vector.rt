@@ -6,7 +6,7 @@ ghost use Rattle.sf_algebra.specs.Vectors.{place_cmp};
 ghost use Rattle.sf_matrix.specs.Places.{place_of, term_of};
 
 use crate::monomial::Mono;
-use sf_field::OutOfMemory;
+use sf_field::{Copied, OutOfMemory};
 use std::alloc::Global;
 use std::marker::Model;
 
@@ -120,5 +120,16 @@ impl Vector {
     {
         let term = &self.terms[k];
         (term.position, term.monomial, term.coefficient)
+    }
+}
+
+impl Copied for Vector {
+    fn copy(&self, alloc: Global) -> Result<Vector, OutOfMemory> {
+        let mut terms = Vec::with_capacity(alloc, self.terms.len())?;
+        terms.extend_from_slice(&self.terms)?;
+        Ok(Vector {
+            degree: self.degree,
+            terms,
+        })
     }
 }
