@@ -4,6 +4,7 @@ pub mod MonomialEquality
 pub mod Orders
 pub mod Products
 pub mod Places
+pub mod Divisors
 pub mod Drops
 pub mod Factors
 pub mod Entries

@@ -3,6 +3,8 @@ pub mod Primes
 pub mod Fields
 pub mod Monomials
 pub mod Products
+pub mod Divisibility
+pub mod DivisibilityLaws
 pub mod Orders
 pub mod Terms
 pub mod Sums

@@ -4,10 +4,12 @@
 //! contract of each is a law of the definitions.
 #![tactic(auto)]
 
+mod divisibility;
 mod order;
 mod product;
 mod sum;
 
+pub use divisibility::{monomial_divisors, monomial_multiples, monomial_quotients};
 pub use order::{monomial_order, place_order};
 pub use product::monomial_products;
 pub use sum::{polynomial_sums, vector_sums};
