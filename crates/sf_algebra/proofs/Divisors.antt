@@ -1,12 +1,11 @@
 -- Divisors, quotients and least common multiples of monomials.
-use Rattle.std.proofs.Common.{◌≡◌, ◌≢◌, ◌↔◌, ℕ, ◌+◌, ◌<◌, ◌≤◌, inl, inr, sym, ◌∙◌, ap, arith}
+use Rattle.std.proofs.Common.{◌≡◌, ◌≢◌, ◌↔◌, ◌+◌, ◌≤◌, inl, inr, sym, ◌∙◌, ap, arith}
 use Rattle.std.proofs.lemmas.Bool.{cases_lt}
-use Rattle.std.proofs.lemmas.Bool.Decides.{nat_tests}
 use Rattle.std.proofs.lemmas.Cmp.{tied_itself}
-use Rattle.std.specs.declared.cmp.Ordering.TheVariants.{Less, Equal, Greater}
-use Rattle.std.specs.Ordering.{nat_cmp, ordering_then}
+use Rattle.std.specs.declared.cmp.Ordering.TheVariants.{Greater}
 use Rattle.sf_algebra.specs.Divisibility.{Divides, quotient, lcm}
 use Rattle.sf_algebra.specs.Monomials.{Monomial, product, exponent_sum, monomial_cmp}
+use Rattle.sf_algebra.proofs.Comparisons.{nat_cmp-lt}
 use Rattle.sf_algebra.proofs.Orders.{monomial_cmp_total}
 use Rattle.sf_algebra.proofs.Products.{exponent_sum-product}
 
@@ -53,14 +52,11 @@ Divides-antisymm a b h k = same_monomial a b (omega arith) (omega arith) (omega 
 Divides-same_sum : (a b : Monomial) → Divides a b → exponent_sum b ≤ exponent_sum a → a ≡ b
 Divides-same_sum a b h k = same_monomial a b (omega arith) (omega arith) (omega arith) (omega arith) (omega arith) (omega arith)
 
-nat_cmp-Less : (m n : ℕ) → m < n → nat_cmp m n ≡ Less
-nat_cmp-Less m n h = grind (arith, nat_tests)
-
 pub Divides-monomial_cmp : (a b : Monomial) → Divides a b → monomial_cmp a b ≢ Greater
 Divides-monomial_cmp a b h greater =
     elim (cases_lt (exponent_sum a) (exponent_sum b)) [
-    | inl less ↦ let e = rw (nat_cmp-Less _ _ less) at greater in cc
-    | inr same ↦ let e = ap (monomial_cmp a) (Divides-same_sum a b h same) in let f = tied_itself monomial_cmp_total a in cc
+      | inl less ↦ let e = rw (nat_cmp-lt _ _ less) at greater in cc
+      | inr same ↦ let e = ap (monomial_cmp a) (Divides-same_sum a b h same) in let f = tied_itself monomial_cmp_total a in cc
     ]
 
 pub lcm-multiple : (a b : Monomial) → Divides a (lcm a b) × Divides b (lcm a b)

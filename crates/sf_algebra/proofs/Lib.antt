@@ -5,6 +5,8 @@ pub mod Orders
 pub mod Products
 pub mod Places
 pub mod Divisors
+pub mod Comparisons
+pub mod OrderInWords
 pub mod Drops
 pub mod Factors
 pub mod Entries

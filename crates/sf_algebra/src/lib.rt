@@ -10,6 +10,6 @@ mod product;
 mod sum;
 
 pub use divisibility::{monomial_divisors, monomial_multiples, monomial_quotients};
-pub use order::{monomial_order, place_order};
+pub use order::{monomial_order, monomial_order_in_words, place_order};
 pub use product::monomial_products;
 pub use sum::{polynomial_sums, vector_sums};

@@ -171,7 +171,7 @@ impl Ord for Mono {
 
     ghost matches_eq = { same_exponents-monomial_cmp };
 
-    #[tactic(auto, using(crate::proofs::OrderingLemmas::ordering_then_assoc))]
+    #[tactic(auto, using(sf_algebra::proofs::Comparisons::ordering_then_assoc))]
     fn cmp(&self, other: &Mono) -> Ordering {
         self.sum()
             .cmp(&other.sum())
