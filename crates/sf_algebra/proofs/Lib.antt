@@ -7,6 +7,7 @@ pub mod Places
 pub mod Divisors
 pub mod Comparisons
 pub mod OrderInWords
+pub mod Numbers
 pub mod Drops
 pub mod Factors
 pub mod Entries

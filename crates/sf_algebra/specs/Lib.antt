@@ -11,8 +11,11 @@ pub mod Terms
 pub mod Sums
 pub mod SumLaws
 pub mod Vectors
+pub mod Numbers
+pub mod NumberLaws
 pub mod Matrices
 pub mod Printing
 pub mod Multiples
+pub mod PlaceLaws
 pub mod Polynomials
 pub mod MatrixOperations
