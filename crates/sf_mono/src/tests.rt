@@ -2,6 +2,10 @@ use super::*;
 use std::cmp::Ordering;
 use std::test::Fail;
 
+fn monomial(exponents: [u16; 6]) -> Result<Mono, Fail> {
+    Ok(Mono::from_exponents(exponents).ok_or("the sum of the exponents")?)
+}
+
 #[test]
 fn exponents_up_to_the_bound(rt: HostRuntime) -> Result<(), Fail> {
     for (exponents, sum) in [
@@ -29,11 +33,68 @@ fn monomials_in_order(rt: HostRuntime) -> Result<(), Fail> {
         ([0, 1, 0, 0, 0, 0], [1, 0, 0, 0, 0, 0], Ordering::Less),
         ([0, 0, 0, 0, 0, 3], [0, 0, 0, 0, 0, 3], Ordering::Equal),
     ] {
-        let left = Mono::from_exponents(left).ok_or("left")?;
-        let right = Mono::from_exponents(right).ok_or("right")?;
+        let left = monomial(left)?;
+        let right = monomial(right)?;
         assert_eq!(rt; left.cmp(&right), order);
         assert_eq!(rt; left == right, order == Ordering::Equal);
         assert_eq!(rt; left.max(right) == left, order != Ordering::Less);
     }
+    Ok(())
+}
+
+#[test]
+fn quotients_by_divisors(rt: HostRuntime) -> Result<(), Fail> {
+    // the divisor, the monomial, and the quotient where there is one
+    for (divisor, dividend, quotient) in [
+        (
+            [0, 0, 0, 0, 0, 0],
+            [1, 2, 3, 4, 5, 6],
+            Some([1, 2, 3, 4, 5, 6]),
+        ),
+        (
+            [1, 2, 3, 4, 5, 6],
+            [1, 2, 3, 4, 5, 7],
+            Some([0, 0, 0, 0, 0, 1]),
+        ),
+        (
+            [0, 65535, 0, 0, 0, 0],
+            [0, 65535, 0, 0, 0, 0],
+            Some([0, 0, 0, 0, 0, 0]),
+        ),
+        ([0, 0, 0, 0, 0, 1], [9, 9, 9, 9, 9, 0], None),
+        ([1, 0, 0, 0, 0, 0], [0, 65535, 0, 0, 0, 0], None),
+    ] {
+        let divisor = monomial(divisor)?;
+        let dividend = monomial(dividend)?;
+        assert_eq!(rt; divisor.divides(dividend), quotient.is_some());
+        if divisor.divides(dividend) {
+            assert_eq!(rt;
+                Some(dividend.quotient(divisor)),
+                quotient.and_then(Mono::from_exponents)
+            );
+        }
+    }
+    Ok(())
+}
+
+// The first is the example of Cox, Little, O'Shea, "Ideals, Varieties, and Algorithms", chapter 2, section 6.
+#[test]
+fn least_common_multiples(rt: HostRuntime) -> Result<(), Fail> {
+    for (left, right, lcm) in [
+        ([3, 2, 0, 0, 0, 0], [4, 1, 0, 0, 0, 0], [4, 2, 0, 0, 0, 0]),
+        ([1, 0, 3, 0, 5, 0], [0, 2, 0, 4, 0, 6], [1, 2, 3, 4, 5, 6]),
+        (
+            [0, 0, 0, 0, 0, 0],
+            [0, 0, 0, 0, 0, 65535],
+            [0, 0, 0, 0, 0, 65535],
+        ),
+    ] {
+        let left = monomial(left)?;
+        let right = monomial(right)?;
+        assert!(rt; left.sum() + right.sum() <= 65535);
+        assert_eq!(rt; left.lcm(right), monomial(lcm)?);
+    }
+    let greatest = Mono::from_exponents([0, 0, 0, 0, 0, 65535]).ok_or("the bound")?;
+    assert_eq!(rt; greatest.lcm(greatest), greatest);
     Ok(())
 }
