@@ -3,6 +3,11 @@ pub mod Descending
 pub mod MonomialEquality
 pub mod Orders
 pub mod Products
+pub mod Places
+pub mod Divisors
+pub mod Comparisons
+pub mod OrderInWords
+pub mod Numbers
 pub mod Drops
 pub mod Factors
 pub mod Entries

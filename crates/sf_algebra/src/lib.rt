@@ -4,10 +4,16 @@
 //! contract of each is a law of the definitions.
 #![tactic(auto)]
 
+mod divisibility;
+mod number;
 mod order;
+mod place;
 mod product;
 mod sum;
 
-pub use order::{monomial_order, place_order};
+pub use divisibility::{monomial_divisors, monomial_multiples, monomial_quotients};
+pub use number::{monomial_numbers, place_numbers};
+pub use order::{monomial_order, monomial_order_in_words, place_order};
+pub use place::place_products;
 pub use product::monomial_products;
 pub use sum::{polynomial_sums, vector_sums};

@@ -1,4 +1,4 @@
-//! The values of the algebra as the program keeps them: lists, names, monomials, free modules, vectors and matrices.
+//! The values of the algebra as the program keeps them: lists, names, free modules, vectors and matrices.
 //!
 //! Contracts see each of them as the plain data of `sf_algebra`.
 #![tactic(auto)]
@@ -7,7 +7,6 @@ mod combinations;
 mod free;
 mod list;
 mod matrix;
-mod monomial;
 mod name;
 mod sums;
 mod vector;
@@ -15,7 +14,6 @@ mod vector;
 pub use free::Free;
 pub use list::List;
 pub use matrix::Matrix;
-pub use monomial::Mono;
 pub use name::Name;
 pub use sums::{add_terms, sum_of_terms};
 pub use vector::{Term, Vector};

@@ -151,7 +151,7 @@ impl Vector {
 #[cfg(test)]
 mod tests {
     use super::*;
-    use crate::monomial::Mono;
+    use sf_mono::Mono;
     use std::test::Fail;
 
     /// A term: its position, the exponents of the first two variables, and its coefficient.

@@ -3,7 +3,7 @@ ghost use Rattle.sf_algebra.specs.MatrixOperations.{unit_vector, identity};
 
 use crate::free::Free;
 use crate::matrix::Matrix;
-use crate::monomial::Mono;
+use sf_mono::Mono;
 use crate::vector::{Term, Vector};
 use sf_field::{Copied, Modulus, OutOfMemory};
 use std::alloc::Global;

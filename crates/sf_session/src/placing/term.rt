@@ -5,7 +5,8 @@ ghost use Rattle.sf_session.specs.Placed.{exponent_in, monomial_of, residue_of, 
 use crate::heads::Ring;
 use crate::raw::RawTerm;
 use sf_field::Modulus;
-use sf_matrix::{Mono, Name, Term};
+use sf_matrix::{Name, Term};
+use sf_mono::Mono;
 
 /// A term at a column.
 pub fn placed_term(ring: &Ring, column: u64, term: &RawTerm) -> Term

@@ -6,7 +6,8 @@ ghost use Rattle.sf_session.specs.Columns.{IsFromColumn, SameEntriesPast};
 use crate::printing::joins::separate;
 use crate::printing::term::print_term;
 use sf_field::OutOfMemory;
-use sf_matrix::{Mono, Name, Vector};
+use sf_matrix::{Name, Vector};
+use sf_mono::Mono;
 
 /// Writes a row of a matrix with this many columns, the entries separated by commas.
 ///

@@ -6,7 +6,8 @@ ghost use Rattle.sf_session.specs.Joins.{joined_after};
 use crate::printing::joins::separate;
 use itoa::Buffer;
 use sf_field::OutOfMemory;
-use sf_matrix::{Mono, Name};
+use sf_matrix::Name;
+use sf_mono::Mono;
 
 /// How many variables a monomial has room for.
 const VARIABLES: usize = 6;

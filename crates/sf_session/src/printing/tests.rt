@@ -3,7 +3,8 @@ ghost use Rattle.sf_algebra.specs.Monomials.{from_exponents};
 
 use super::*;
 use sf_field::Modulus;
-use sf_matrix::{Free, List, Matrix, Mono, Name, Vector};
+use sf_matrix::{Free, List, Matrix, Name, Vector};
+use sf_mono::Mono;
 use std::alloc::Global;
 use std::test::Fail;
 

@@ -1,6 +1,7 @@
-ghost use Rattle.std.specs.Prelude.{◌≡◌, ◌+◌, ◌<◌, ◌≤◌, ◌↔◌, IsSome, IfSome, sum, slice_index, refl};
+ghost use Rattle.std.specs.Prelude.{◌≡◌, ◌+◌, ◌<◌, ◌≤◌, ◌↔◌, IsSome, IfSome, IsTrue, sum, slice_index, refl};
 ghost use Rattle.std.specs.Cmp.{partial_order_from_agreeing_total};
 ghost use Rattle.std.specs.Ordering.{as_partial_cmp};
+ghost use Rattle.sf_algebra.specs.Divisibility.{Divides, quotient, lcm};
 ghost use Rattle.sf_algebra.specs.Monomials.{VARIABLES, one, product, exponents, from_exponents, exponent_sum, monomial_cmp};
 ghost use Rattle.sf_algebra.proofs.MonomialEquality.{same_exponents-monomial_cmp};
 ghost use Rattle.sf_algebra.proofs.Orders.{monomial_cmp_total};
@@ -103,8 +104,8 @@ impl Mono {
     ///
     /// It fits where the sums of the factors' exponents add to at most 65,535.
     pub fn mul(self, other: Mono) -> Mono
-        requires { exponent_sum self + exponent_sum other ≤ 65535 }
-        ensures { result ≡ product self other }
+        requires fits { exponent_sum self + exponent_sum other ≤ 65535 }
+        ensures product { result ≡ product self other }
     {
         Mono {
             e1: self.e1 + other.e1,
@@ -113,6 +114,50 @@ impl Mono {
             e4: self.e4 + other.e4,
             e5: self.e5 + other.e5,
             e6: self.e6 + other.e6,
+        }
+    }
+
+    /// Whether this monomial divides the other one: no exponent is greater than the other's.
+    pub fn divides(self, other: Mono) -> bool
+        ensures divides { IsTrue result ↔ Divides self other }
+    {
+        self.e1 <= other.e1
+            && self.e2 <= other.e2
+            && self.e3 <= other.e3
+            && self.e4 <= other.e4
+            && self.e5 <= other.e5
+            && self.e6 <= other.e6
+    }
+
+    /// This monomial divided by the other one, which divides it.
+    pub fn quotient(self, other: Mono) -> Mono
+        requires divisor { Divides other self }
+        ensures quotient { result ≡ quotient self other }
+    {
+        Mono {
+            e1: self.e1 - other.e1,
+            e2: self.e2 - other.e2,
+            e3: self.e3 - other.e3,
+            e4: self.e4 - other.e4,
+            e5: self.e5 - other.e5,
+            e6: self.e6 - other.e6,
+        }
+    }
+
+    /// The least common multiple, whose exponents are the greater ones.
+    ///
+    /// It fits where the sum of its exponents is at most 65,535.
+    pub fn lcm(self, other: Mono) -> Mono
+        requires fits { exponent_sum (lcm self other) ≤ 65535 }
+        ensures lcm { result ≡ lcm self other }
+    {
+        Mono {
+            e1: self.e1.max(other.e1),
+            e2: self.e2.max(other.e2),
+            e3: self.e3.max(other.e3),
+            e4: self.e4.max(other.e4),
+            e5: self.e5.max(other.e5),
+            e6: self.e6.max(other.e6),
         }
     }
 }
@@ -126,7 +171,7 @@ impl Ord for Mono {
 
     ghost matches_eq = { same_exponents-monomial_cmp };
 
-    #[tactic(auto, using(crate::proofs::OrderingLemmas::ordering_then_assoc))]
+    #[tactic(auto, using(sf_algebra::proofs::Comparisons::ordering_then_assoc))]
     fn cmp(&self, other: &Mono) -> Ordering {
         self.sum()
             .cmp(&other.sum())

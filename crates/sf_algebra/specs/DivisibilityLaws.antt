@@ -1,0 +1,52 @@
+-- What holds of divisors, quotients and least common multiples of monomials. (Cox, Little, O'Shea, "Ideals, Varieties, and
+-- Algorithms", chapter 2, sections 4 and 6.)
+use Rattle.std.specs.Prelude.{◌≡◌, ◌≢◌, ◌↔◌, ◌+◌, ◌≤◌}
+use Rattle.std.specs.declared.cmp.Ordering.TheVariants.{Greater}
+use Rattle.sf_algebra.specs.Divisibility.{Divides, quotient, lcm}
+use Rattle.sf_algebra.specs.Monomials.{Monomial, product, exponent_sum, monomial_cmp}
+
+-- a monomial divides its multiples and nothing else
+abbrev pub DividesMultiples : Type 0
+DividesMultiples = (a b : Monomial) → Divides a b ↔ ((c : Monomial) × (product a c ≡ b))
+
+abbrev pub DividesItself : Type 0
+DividesItself = (a : Monomial) → Divides a a
+
+abbrev pub DividesTransitively : Type 0
+DividesTransitively = (a b c : Monomial) → Divides a b → Divides b c → Divides a c
+
+-- monomials that divide each other are equal
+abbrev pub DividesAntisymmetrically : Type 0
+DividesAntisymmetrically = (a b : Monomial) → Divides a b → Divides b a → a ≡ b
+
+-- a divisor is not greater in the order
+abbrev pub DividesNoLesser : Type 0
+DividesNoLesser = (a b : Monomial) → Divides a b → monomial_cmp a b ≢ Greater
+
+-- a divisor times the quotient by it is the monomial that it divides
+abbrev pub MultipliesBack : Type 0
+MultipliesBack = (a b : Monomial) → Divides b a → product b (quotient a b) ≡ a
+
+-- the quotient is the only monomial of which this holds
+abbrev pub IsOnlyQuotient : Type 0
+IsOnlyQuotient = (a b c : Monomial) → product b c ≡ a → c ≡ quotient a b
+
+-- equal factors may be left out on both sides
+abbrev pub CancelsFactors : Type 0
+CancelsFactors = (a b c : Monomial) → product a b ≡ product a c → b ≡ c
+
+-- both monomials divide their least common multiple
+abbrev pub IsCommonMultiple : Type 0
+IsCommonMultiple = (a b : Monomial) → Divides a (lcm a b) × Divides b (lcm a b)
+
+-- it divides each monomial that both divide
+abbrev pub IsLeastMultiple : Type 0
+IsLeastMultiple = (a b c : Monomial) → Divides a c → Divides b c → Divides (lcm a b) c
+
+-- its sum of exponents is no less than theirs
+abbrev pub HasGreaterSum : Type 0
+HasGreaterSum = (a b : Monomial) → (exponent_sum a ≤ exponent_sum (lcm a b)) × (exponent_sum b ≤ exponent_sum (lcm a b))
+
+-- its sum of exponents is no greater than theirs together
+abbrev pub HasBoundedSum : Type 0
+HasBoundedSum = (a b : Monomial) → exponent_sum (lcm a b) ≤ exponent_sum a + exponent_sum b
