@@ -3,6 +3,7 @@ pub mod Descending
 pub mod MonomialEquality
 pub mod Orders
 pub mod Products
+pub mod Places
 pub mod Drops
 pub mod Factors
 pub mod Entries
