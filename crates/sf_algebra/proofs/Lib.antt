@@ -11,6 +11,10 @@ pub mod Residues
 pub mod Primes
 pub mod Inverses
 pub mod Totals
+pub mod DoubleTotals
+pub mod Keys
+pub mod Multiples
+pub mod Combinations
 pub mod Normal
 pub mod Coefficients
 pub mod Sums
