@@ -12,11 +12,14 @@ pub mod Primes
 pub mod Inverses
 pub mod Totals
 pub mod DoubleTotals
-pub mod Keys
-pub mod Multiples
-pub mod Combinations
 pub mod Normal
 pub mod Coefficients
 pub mod Sums
+pub mod Keys
+pub mod Multiples
+pub mod MultipleLaws
+pub mod Negatives
+pub mod Combinations
+pub mod CombinationLaws
 pub mod Merge
 pub mod Slices
