@@ -21,5 +21,7 @@ pub mod MultipleLaws
 pub mod Negatives
 pub mod Combinations
 pub mod CombinationLaws
+pub mod Associativity
+pub mod Polynomials
 pub mod Merge
 pub mod Slices

@@ -30,6 +30,9 @@ module _ {K : Type 0} (keys : Keys K) (p : ℕ) where
     coefficient = product_mod-assoc p s.coefficient t.coefficient u.coefficient i;
   }
 
+  pub term_product-exchange : (s t : Term Monomial) (u : Term K) → term_product keys.act p s (term_product keys.act p t u) ≡ term_product keys.act p t (term_product keys.act p s u)
+  term_product-exchange s t u = sym (term_product-assoc s t u) ∙ ap (λ r. term_product keys.act p r u) (term_product-comm p s t) ∙ term_product-assoc t s u
+
   -- the term 1 changes a coefficient by reducing it
   pub term_product-one : (u : Term K) → term_product keys.act p one_term u ≡ record { at = u.at; coefficient = u.coefficient % p }
   term_product-one u = λ i. record {
