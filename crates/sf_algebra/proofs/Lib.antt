@@ -20,8 +20,11 @@ pub mod Multiples
 pub mod MultipleLaws
 pub mod Negatives
 pub mod Combinations
+pub mod PrimeMultiples
 pub mod CombinationLaws
 pub mod Associativity
 pub mod Polynomials
+pub mod Rows
+pub mod UnitRows
 pub mod Merge
 pub mod Slices
