@@ -1,14 +1,16 @@
 -- Laws of combinations: additive in the coefficients and in the rows, and associative.
-use Rattle.std.proofs.Common.{◌≡◌, ℕ, ◌<◌, List, [], ◌∷◌, ◌++◌, sym, ◌∙◌, ap}
+use Rattle.std.proofs.Common.{◌≡◌, ℕ, ◌%◌, ◌<◌, List, [], ◌∷◌, ◌++◌, sym, ◌∙◌, ap}
+use Rattle.std.specs.List.{AllByRecursion}
 use Rattle.sf_algebra.specs.Monomials.{Monomial}
-use Rattle.sf_algebra.specs.Multiples.{multiple, combination}
+use Rattle.sf_algebra.specs.Multiples.{term_product, multiple, combination}
 use Rattle.sf_algebra.specs.Residues.{sum_mod}
 use Rattle.sf_algebra.specs.Sums.{add, total}
 use Rattle.sf_algebra.specs.Terms.{Term, IsCanonical}
 use Rattle.sf_algebra.proofs.Coefficients.{same_from_total}
 use Rattle.sf_algebra.proofs.Combinations.{IsCanonical-combination, factor, share, share-additive, total-combination}
-use Rattle.sf_algebra.proofs.DoubleTotals.{total-sum}
+use Rattle.sf_algebra.proofs.DoubleTotals.{total-each, total-sum}
 use Rattle.sf_algebra.proofs.Keys.{Keys}
+use Rattle.sf_algebra.proofs.Lists.{AllByRecursion-weaken}
 use Rattle.sf_algebra.proofs.Multiples.{IsCanonical-multiple, term_product-additive, total-multiple}
 use Rattle.sf_algebra.proofs.Normal.{IsCanonical-add}
 use Rattle.sf_algebra.proofs.Residues.{sum_mod-zero}
@@ -22,6 +24,16 @@ module _ {C K : Type 0} (keys : Keys K) (p : ℕ) (positive : 0 < p) (monomial :
   combination-same row c vs canonical same =
       same_from_total keys.cmp keys.order p positive _ _ (IsCanonical-combination keys p monomial row positive c) canonical
       (λ g additive. total-combination keys p monomial row g additive c ∙ same g additive)
+
+  -- only the rows count that have a coefficient
+  pub combination-rows : (row other : C → List (Term K)) (c : List (Term C)) → AllByRecursion (λ t. row t.at ≡ other t.at) c
+      → combination keys.cmp keys.act p monomial row c ≡ combination keys.cmp keys.act p monomial other c
+  combination-rows row other c same =
+      combination-same row c _ (IsCanonical-combination keys p monomial other positive c)
+      (λ g additive.
+      total-each p (share keys.act p monomial row g) (share keys.act p monomial other g) c
+      (AllByRecursion-weaken _ _ (λ t e. ap (λ us. total p (λ u. g (term_product keys.act p (factor monomial t) u)) us % p) e) c same)
+      ∙ sym (total-combination keys p monomial other g additive c))
 
   pub combination-nil : (row : C → List (Term K)) → combination keys.cmp keys.act p monomial row [] ≡ []
   combination-nil row =

@@ -25,6 +25,8 @@ pub mod CombinationLaws
 pub mod Associativity
 pub mod Polynomials
 pub mod Rows
+pub mod RowParts
 pub mod UnitRows
+pub mod StackedRows
 pub mod Merge
 pub mod Slices
