@@ -1,0 +1,52 @@
+-- Polynomials with sums and products are a commutative ring.
+use Rattle.std.proofs.Common.{◌≡◌, ℕ, ◌%◌, ◌<◌, List, [], ◌∷◌, refl, sym, ◌∙◌, ap}
+use Rattle.sf_algebra.specs.Monomials.{Monomial, product, monomial_cmp}
+use Rattle.sf_algebra.specs.Multiples.{negative, term_product}
+use Rattle.sf_algebra.specs.Polynomials.{polynomial_product}
+use Rattle.sf_algebra.specs.Sums.{add, total, part_at, coefficient_at}
+use Rattle.sf_algebra.specs.Terms.{Term, IsCanonical}
+use Rattle.sf_algebra.proofs.Associativity.{IsOfRows, combination_combination, combination-negative}
+use Rattle.sf_algebra.proofs.Coefficients.{part_at-additive}
+use Rattle.sf_algebra.proofs.CombinationLaws.{combination-add, combination-nil, combination-one, combination-same}
+use Rattle.sf_algebra.proofs.Combinations.{IsCanonical-combination, total-combination}
+use Rattle.sf_algebra.proofs.DoubleTotals.{total_exchange, total-same}
+use Rattle.sf_algebra.proofs.Keys.{monomial_keys}
+use Rattle.sf_algebra.proofs.MultipleLaws.{multiple-one, one_term, term_product-comm}
+
+-- every coefficient of a product of polynomials stands for the second factor
+constant_rows : (v : List (Term Monomial)) → IsOfRows monomial_keys (λ a. a) (λ _. v)
+constant_rows v = record { monomial_act = λ a k. refl; row_act = λ a k. refl }
+
+module _ (p : ℕ) (positive : 0 < p) where
+  pub IsCanonical-polynomial_product : (u v : List (Term Monomial)) → IsCanonical monomial_cmp p (polynomial_product p u v)
+  IsCanonical-polynomial_product u v = IsCanonical-combination monomial_keys p (λ a. a) (λ _. v) positive u
+
+  pub polynomial_product-comm : (u v : List (Term Monomial)) → polynomial_product p u v ≡ polynomial_product p v u
+  polynomial_product-comm u v =
+      combination-same monomial_keys p positive (λ a. a) (λ _. v) u (polynomial_product p v u) (IsCanonical-polynomial_product v u)
+      (λ g additive.
+      total_exchange p (λ t s. g (term_product product p t s)) u v
+      ∙ total-same p _ _ v (λ s. ap (λ n. n % p) (total-same p _ _ u (λ t. ap (λ r. g r % p) (term_product-comm p t s))))
+      ∙ sym (total-combination monomial_keys p (λ a. a) (λ _. u) g additive v))
+
+  pub polynomial_product-assoc : (u v w : List (Term Monomial)) → polynomial_product p (polynomial_product p u v) w ≡ polynomial_product p u (polynomial_product p v w)
+  polynomial_product-assoc u v w = combination_combination monomial_keys monomial_keys p positive (λ a. a) (λ _. w) (constant_rows w) (λ a. a) (λ _. v) u
+
+  pub polynomial_product-add : (u v w : List (Term Monomial)) → polynomial_product p (add monomial_cmp p u v) w ≡ add monomial_cmp p (polynomial_product p u w) (polynomial_product p v w)
+  polynomial_product-add u v w = combination-add monomial_keys monomial_keys p positive (λ a. a) (λ _. w) u v
+
+  -- the constant 1 is the one
+  pub polynomial_product-one : (u : List (Term Monomial)) → IsCanonical monomial_cmp p u → polynomial_product p (one_term ∷ []) u ≡ u
+  polynomial_product-one u canonical =
+      combination-one monomial_keys p positive (λ a. a) (λ _. u) one_term ∙ multiple-one monomial_keys p positive u canonical
+
+  pub polynomial_product-nil : (u : List (Term Monomial)) → polynomial_product p [] u ≡ []
+  polynomial_product-nil u = combination-nil monomial_keys p positive (λ a. a) (λ _. u)
+
+  pub polynomial_product-negative : (u v : List (Term Monomial)) → IsCanonical monomial_cmp p u → polynomial_product p (negative p u) v ≡ negative p (polynomial_product p u v)
+  polynomial_product-negative u v h = combination-negative monomial_keys monomial_keys p positive (λ a. a) (λ _. v) (constant_rows v) u h
+
+-- the coefficient of a product is the sum of the products of those pairs of coefficients whose terms' product stands there
+pub coefficient_at-polynomial_product : (p : ℕ) (k : Monomial) (u v : List (Term Monomial))
+    → coefficient_at monomial_cmp p k (polynomial_product p u v) ≡ total p (λ t. total p (λ s. part_at monomial_cmp k (term_product product p t s)) v) u
+coefficient_at-polynomial_product p k u v = total-combination monomial_keys p (λ a. a) (λ _. v) (part_at monomial_cmp k) (part_at-additive monomial_cmp p k) u

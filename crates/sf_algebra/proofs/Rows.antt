@@ -1,0 +1,89 @@
+-- Combinations of the rows of a matrix.
+use Rattle.std.proofs.Common.{◌≡◌, ℕ, zero, suc, ◌+◌, ◌<◌, ◌≤◌, List, [], ◌∷◌, ◌++◌, length, map, refl, sym, ◌∙◌, ap, arith}
+use Rattle.sf_algebra.specs.Matrices.{Matrix}
+use Rattle.sf_algebra.specs.MatrixOperations.{row_at, row_combination, matrix_product}
+use Rattle.sf_algebra.specs.Monomials.{Monomial}
+use Rattle.sf_algebra.specs.Multiples.{place_product, multiple, negative, combination}
+use Rattle.sf_algebra.specs.Sums.{add}
+use Rattle.sf_algebra.specs.Terms.{Term, IsCanonical}
+use Rattle.sf_algebra.specs.Vectors.{Place, Vector, place_cmp}
+use Rattle.sf_algebra.proofs.Associativity.{IsOfRows, combination_combination, combination-multiple, combination-negative}
+use Rattle.sf_algebra.proofs.CombinationLaws.{combination-add, combination-add_rows, combination-append, combination-nil, combination-one}
+use Rattle.sf_algebra.proofs.Combinations.{IsCanonical-combination}
+use Rattle.sf_algebra.proofs.Keys.{place_keys}
+
+-- a coefficient stands for the row at its position
+pub position_rows : (row : ℕ → List (Term Place)) → IsOfRows place_keys (λ k. k.monomial) (λ k. row k.position)
+position_rows row = record { monomial_act = λ a k. refl; row_act = λ a k. refl }
+
+-- the row at a position of mapped rows
+pub row_at-map : (f : List (Term Place) → List (Term Place)) → f [] ≡ [] → (rows : List Vector) (i : ℕ) → row_at (map (λ (v : Vector). record { degree = v.degree; terms = f v.terms }) rows) i ≡ f (row_at rows i)
+row_at-map f none [] i = sym none
+row_at-map f none (v ∷ vs) zero = refl
+row_at-map f none (v ∷ vs) (suc i) = row_at-map f none vs i
+
+-- past the rows there is none
+pub row_at-past : (rows : List Vector) (i : ℕ) → length rows ≤ i → row_at rows i ≡ []
+row_at-past [] i h = refl
+row_at-past (v ∷ vs) zero h = absurd (omega arith)
+row_at-past (v ∷ vs) (suc i) h = row_at-past vs i (omega arith)
+
+-- the rows of a list followed by another one
+pub row_at-append_first : (rows more : List Vector) (i : ℕ) → i < length rows → row_at (rows ++ more) i ≡ row_at rows i
+row_at-append_first [] more i h = absurd (omega arith)
+row_at-append_first (v ∷ vs) more zero h = refl
+row_at-append_first (v ∷ vs) more (suc i) h = row_at-append_first vs more i (omega arith)
+
+pub row_at-append_second : (rows more : List Vector) (i : ℕ) → row_at (rows ++ more) (length rows + i) ≡ row_at more i
+row_at-append_second [] more i = ap (row_at more) (omega arith)
+row_at-append_second (v ∷ vs) more i = let next : length (v ∷ vs) + i ≡ suc (length vs + i) = omega arith in ap (row_at (v ∷ (vs ++ more))) next ∙ row_at-append_second vs more i
+
+module _ (p : ℕ) (positive : 0 < p) where
+  pub IsCanonical-row_combination : (rows : List Vector) (c : List (Term Place)) → IsCanonical place_cmp p (row_combination p rows c)
+  IsCanonical-row_combination rows c = IsCanonical-combination place_keys p (λ k. k.monomial) (λ k. row_at rows k.position) positive c
+
+  pub row_combination-nil : (rows : List Vector) → row_combination p rows [] ≡ []
+  row_combination-nil rows = combination-nil place_keys p positive (λ k. k.monomial) (λ k. row_at rows k.position)
+
+  -- one coefficient gives a multiple of a row
+  pub row_combination-one : (rows : List Vector) (t : Term Place)
+      → row_combination p rows (t ∷ []) ≡ multiple place_cmp place_product p (record { at = t.at.monomial; coefficient = t.coefficient }) (row_at rows t.at.position)
+  row_combination-one rows t = combination-one place_keys p positive (λ k. k.monomial) (λ k. row_at rows k.position) t
+
+  -- two lists of coefficients one after the other
+  pub row_combination-append : (rows : List Vector) (c d : List (Term Place)) → row_combination p rows (c ++ d) ≡ add place_cmp p (row_combination p rows c) (row_combination p rows d)
+  row_combination-append rows c d = combination-append place_keys p positive (λ k. k.monomial) (λ k. row_at rows k.position) c d
+
+  -- additive in the coefficients
+  pub row_combination-add : (rows : List Vector) (c d : List (Term Place)) → row_combination p rows (add place_cmp p c d) ≡ add place_cmp p (row_combination p rows c) (row_combination p rows d)
+  row_combination-add rows c d = combination-add place_keys place_keys p positive (λ k. k.monomial) (λ k. row_at rows k.position) c d
+
+  -- additive in the rows
+  pub row_combination-add_rows : (sums rows others : List Vector) → ((i : ℕ) → row_at sums i ≡ add place_cmp p (row_at rows i) (row_at others i)) → (c : List (Term Place))
+      → row_combination p sums c ≡ add place_cmp p (row_combination p rows c) (row_combination p others c)
+  row_combination-add_rows sums rows others same c =
+      (λ i. combination place_cmp place_product p (λ k. k.monomial) (λ k. same k.position i) c)
+      ∙ combination-add_rows place_keys p positive (λ k. k.monomial) (λ k. row_at rows k.position) (λ k. row_at others k.position) c
+
+  -- multiples of the coefficients
+  pub row_combination-multiple : (rows : List Vector) (s : Term Monomial) (c : List (Term Place))
+      → row_combination p rows (multiple place_cmp place_product p s c) ≡ multiple place_cmp place_product p s (row_combination p rows c)
+  row_combination-multiple rows s c =
+      combination-multiple place_keys place_keys p positive (λ k. k.monomial) (λ k. row_at rows k.position) (position_rows (row_at rows)) s c
+
+  pub row_combination-negative : (rows : List Vector) (c : List (Term Place)) → IsCanonical place_cmp p c → row_combination p rows (negative p c) ≡ negative p (row_combination p rows c)
+  row_combination-negative rows c h =
+      combination-negative place_keys place_keys p positive (λ k. k.monomial) (λ k. row_at rows k.position) (position_rows (row_at rows)) c h
+
+  -- the rows of a product are combinations
+  pub row_at-matrix_product : (m n : Matrix) (i : ℕ) → m.modulus ≡ p → row_at (matrix_product m n).rows i ≡ row_combination p n.rows (row_at m.rows i)
+  row_at-matrix_product m n i e =
+      row_at-map (row_combination m.modulus n.rows) (ap (λ q. row_combination q n.rows []) e ∙ row_combination-nil n.rows) m.rows i
+      ∙ ap (λ q. row_combination q n.rows (row_at m.rows i)) e
+
+  -- associative: the rows of a product are combined as those of its second factor, with combined coefficients
+  pub row_combination-matrix_product : (m n : Matrix) (c : List (Term Place)) → m.modulus ≡ p
+      → row_combination p (matrix_product m n).rows c ≡ row_combination p n.rows (row_combination p m.rows c)
+  row_combination-matrix_product m n c e =
+      (λ i. combination place_cmp place_product p (λ k. k.monomial) (λ k. row_at-matrix_product m n k.position e i) c)
+      ∙ sym (combination_combination place_keys place_keys p positive (λ k. k.monomial) (λ k. row_at n.rows k.position) (position_rows (row_at n.rows)) (λ k. k.monomial) (λ k. row_at m.rows k.position) c)

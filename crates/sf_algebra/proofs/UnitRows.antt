@@ -1,0 +1,59 @@
+-- Unit vectors: as coefficients they pick a row, and as rows they give the coefficients back.
+use Rattle.std.proofs.Common.{◌≡◌, ℕ, zero, suc, ◌+◌, ◌%◌, ◌<◌, List, [], ◌∷◌, length, ◌∙◌, ap, arith, ℤ, zero-add}
+use Rattle.std.specs.List.{AllByRecursion}
+use Rattle.sf_algebra.specs.MatrixOperations.{row_at, row_combination, unit_rows}
+use Rattle.sf_algebra.specs.Monomials.{one}
+use Rattle.sf_algebra.specs.Multiples.{place_product, term_product}
+use Rattle.sf_algebra.specs.Residues.{sum_mod}
+use Rattle.sf_algebra.specs.Sums.{total}
+use Rattle.sf_algebra.specs.Terms.{Term, IsCanonical}
+use Rattle.sf_algebra.specs.Vectors.{Place, Vector, place_cmp}
+use Rattle.sf_algebra.proofs.CombinationLaws.{combination-same}
+use Rattle.sf_algebra.proofs.Combinations.{factor, share}
+use Rattle.sf_algebra.proofs.DoubleTotals.{total-each}
+use Rattle.sf_algebra.proofs.Keys.{place_keys}
+use Rattle.sf_algebra.proofs.Lists.{AllByRecursion-weaken}
+use Rattle.sf_algebra.proofs.MultipleLaws.{multiple-one}
+use Rattle.sf_algebra.proofs.Products.{product-comm, product-one_first}
+use Rattle.sf_algebra.proofs.Residues.{product_mod-one, sum_mod-zero}
+use Rattle.sf_algebra.proofs.Rows.{row_combination-one}
+use Rattle.sf_algebra.proofs.Totals.{IsAdditive, additive-reduced, total-cons, total-nil, total-reduced}
+
+-- the term of the unit vector at a position
+abbrev pub unit_term : ℕ → Term Place
+unit_term i = record { at = record { position = i; monomial = one }; coefficient = 1 }
+
+pub row_at-unit_rows : (degrees : List ℤ) (from i : ℕ) → i < length degrees → row_at (unit_rows from degrees) i ≡ unit_term (from + i) ∷ []
+row_at-unit_rows [] from i h = absurd (omega arith)
+row_at-unit_rows (d ∷ ds) from zero h = ap (λ n. unit_term n ∷ []) (omega arith)
+row_at-unit_rows (d ∷ ds) from (suc i) h = row_at-unit_rows ds (suc from) i (omega arith) ∙ ap (λ n. unit_term n ∷ []) (omega arith)
+
+-- a unit vector of coefficients picks a row
+pub row_combination-unit : (p : ℕ) → 0 < p → (rows : List Vector) (i : ℕ) → IsCanonical place_cmp p (row_at rows i) → row_combination p rows (unit_term i ∷ []) ≡ row_at rows i
+row_combination-unit p positive rows i h = row_combination-one p positive rows (unit_term i) ∙ multiple-one place_keys p positive (row_at rows i) h
+
+-- a coefficient times the unit vector at its position
+pub term_product-unit_term : (p : ℕ) (t : Term Place) → term_product place_product p (factor (λ k. k.monomial) t) (unit_term (0 + t.at.position)) ≡ record { at = t.at; coefficient = t.coefficient % p }
+term_product-unit_term p t = λ i. record {
+  at = record { position = zero-add t.at.position i; monomial = (product-comm t.at.monomial one ∙ product-one_first t.at.monomial) i };
+  coefficient = product_mod-one p t.coefficient i;
+}
+
+-- unit rows give the coefficients back
+pub row_combination-unit_rows : (p : ℕ) → 0 < p → (degrees : List ℤ) (c : List (Term Place)) → IsCanonical place_cmp p c → AllByRecursion (λ t. t.at.position < length degrees) c
+    → row_combination p (unit_rows 0 degrees) c ≡ c
+row_combination-unit_rows p positive degrees c canonical within =
+    combination-same place_keys p positive (λ k. k.monomial) (λ k. row_at (unit_rows 0 degrees) k.position) c c canonical
+    (λ g additive. total-each p _ _ c (AllByRecursion-weaken _ _ (λ t h. gives_back g additive t h) c within))
+  where
+    gives_back : (g : Term Place → ℕ) → IsAdditive p g → (t : Term Place) → t.at.position < length degrees
+        → share place_product p (λ k. k.monomial) (λ k. row_at (unit_rows 0 degrees) k.position) g t % p ≡ g t % p
+    gives_back g additive t h =
+        let part = λ (u : Term Place). g (term_product place_product p (factor (λ k. k.monomial) t) u) in
+        ap (λ us. total p part us % p) (row_at-unit_rows degrees 0 t.at.position h)
+        ∙ total-reduced p part _
+        ∙ total-cons p part _ []
+        ∙ ap (sum_mod p _) (total-nil p part)
+        ∙ sum_mod-zero p _
+        ∙ ap (λ u. g u % p) (term_product-unit_term p t)
+        ∙ additive-reduced p g additive t.at t.coefficient
