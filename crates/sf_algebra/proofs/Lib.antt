@@ -7,6 +7,9 @@ pub mod Places
 pub mod Drops
 pub mod Factors
 pub mod Entries
+pub mod Positions
+pub mod MatrixRows
+pub mod Identities
 pub mod Residues
 pub mod Primes
 pub mod Inverses
