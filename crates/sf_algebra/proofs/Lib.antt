@@ -10,6 +10,8 @@ pub mod Entries
 pub mod Positions
 pub mod MatrixRows
 pub mod Identities
+pub mod Columns
+pub mod Transposes
 pub mod Residues
 pub mod Primes
 pub mod Inverses
