@@ -12,6 +12,8 @@ pub mod MatrixRows
 pub mod Identities
 pub mod Columns
 pub mod Transposes
+pub mod Stacks
+pub mod NegatedMatrices
 pub mod Residues
 pub mod Primes
 pub mod Inverses
