@@ -14,6 +14,8 @@ pub mod Columns
 pub mod Transposes
 pub mod Stacks
 pub mod NegatedMatrices
+pub mod MatrixProducts
+pub mod ProductLaws
 pub mod Residues
 pub mod Primes
 pub mod Inverses
