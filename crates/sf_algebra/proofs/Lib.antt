@@ -16,6 +16,8 @@ pub mod Stacks
 pub mod NegatedMatrices
 pub mod MatrixProducts
 pub mod ProductLaws
+pub mod EntryTotals
+pub mod TransposedProducts
 pub mod Residues
 pub mod Primes
 pub mod Inverses
