@@ -11,6 +11,17 @@ pub mod Numbers
 pub mod Drops
 pub mod Factors
 pub mod Entries
+pub mod Positions
+pub mod MatrixRows
+pub mod Identities
+pub mod Columns
+pub mod Transposes
+pub mod Stacks
+pub mod NegatedMatrices
+pub mod MatrixProducts
+pub mod ProductLaws
+pub mod EntryTotals
+pub mod TransposedProducts
 pub mod Residues
 pub mod Primes
 pub mod Inverses

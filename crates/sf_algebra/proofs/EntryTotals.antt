@@ -1,0 +1,114 @@
+-- Totals over an entry of a vector, and the entries of combinations of rows: products of vectors, entry by entry.
+use Rattle.std.proofs.Common.{◌≡◌, ℕ, ◌%◌, ◌<◌, eqb, if◌then◌else◌, ◌==◌, Bool, true, false, List, [], ◌∷◌, sym, ap, ◌∙◌, inl, inr, arith}
+use Rattle.std.proofs.Math.Nat.{zero-mod}
+use Rattle.std.proofs.lemmas.Bool.{cases_eq}
+use Rattle.std.proofs.lemmas.Bool.Decides.{nat_tests}
+use Rattle.sf_algebra.specs.MatrixOperations.{row_at, row_combination}
+use Rattle.sf_algebra.specs.Monomials.{Monomial, product, monomial_cmp}
+use Rattle.sf_algebra.specs.Multiples.{place_product, term_product, combination}
+use Rattle.sf_algebra.specs.Residues.{sum_mod}
+use Rattle.sf_algebra.specs.Sums.{normal, total}
+use Rattle.sf_algebra.specs.Terms.{Term}
+use Rattle.sf_algebra.specs.Vectors.{Place, Vector, place_cmp, entry}
+use Rattle.sf_algebra.proofs.Coefficients.{same_from_total}
+use Rattle.sf_algebra.proofs.CombinationLaws.{combination-same}
+use Rattle.sf_algebra.proofs.Combinations.{IsCanonical-combination, factor, total-combination}
+use Rattle.sf_algebra.proofs.DoubleTotals.{total_exchange, total-same}
+use Rattle.sf_algebra.proofs.Entries.{without_position, entry-here, entry-elsewhere}
+use Rattle.sf_algebra.proofs.Keys.{monomial_keys, place_keys}
+use Rattle.sf_algebra.proofs.MultipleLaws.{term_product-comm}
+use Rattle.sf_algebra.proofs.Normal.{IsCanonical-normal}
+use Rattle.sf_algebra.proofs.Orders.{monomial_cmp_linear, place_cmp_linear}
+use Rattle.sf_algebra.proofs.Positions.{IsCanonical-entry}
+use Rattle.sf_algebra.proofs.Residues.{sum_mod-zero, sum_mod-zero_first}
+use Rattle.sf_algebra.proofs.Totals.{IsAdditive, total-nil, total-cons, total-normal, total-reduced}
+
+-- a number for each term at a position, and 0 for the others
+abbrev pub at_entry : ℕ → (Term Monomial → ℕ) → Term Place → ℕ
+at_entry j g t = if t.at.position == j then g (without_position t) else 0
+
+-- a total over an entry is one over the vector
+pub total-entry : (p j : ℕ) (g : Term Monomial → ℕ) (ts : List (Term Place)) → total p g (entry j ts) ≡ total p (at_entry j g) ts
+total-entry p j g [] = total-nil p g ∙ sym (total-nil p (at_entry j g))
+total-entry p j g (t ∷ ts) =
+    elim (cases_eq t.at.position j) [
+      | inl here ↦
+          let yes : eqb t.at.position j ≡ true = grind (arith, nat_tests) in
+          ap (total p g) (entry-here j t ts here)
+          ∙ total-cons p g (without_position t) (entry j ts)
+          ∙ (λ i. sum_mod p (if sym yes i then g (without_position t) else 0) (total-entry p j g ts i))
+          ∙ sym (total-cons p (at_entry j g) t ts)
+      | inr elsewhere ↦
+          let no : eqb t.at.position j ≡ false = grind (arith, nat_tests) in
+          ap (total p g) (entry-elsewhere j t ts elsewhere)
+          ∙ total-entry p j g ts
+          ∙ sym (total-reduced p (at_entry j g) ts)
+          ∙ sym (sum_mod-zero_first p (total p (at_entry j g) ts))
+          ∙ (λ i. sum_mod p (if sym no i then g (without_position t) else 0) (total p (at_entry j g) ts))
+          ∙ sym (total-cons p (at_entry j g) t ts)
+    ]
+
+pub at_entry-additive : (p j : ℕ) (g : Term Monomial → ℕ) → IsAdditive p g → IsAdditive p (at_entry j g)
+at_entry-additive p j g additive = record { at_zero = λ k. none k.monomial (eqb k.position j); at_sum = λ k a b. sums k.monomial a b (eqb k.position j) }
+  where
+    none : (k : Monomial) (b : Bool) → (if b then g (record { at = k; coefficient = 0 }) else 0) % p ≡ 0
+    none k true = additive.at_zero k
+    none k false = zero-mod p
+
+    sums : (k : Monomial) (m n : ℕ) (b : Bool)
+        → (if b then g (record { at = k; coefficient = sum_mod p m n }) else 0) % p ≡ sum_mod p (if b then g (record { at = k; coefficient = m }) else 0) (if b then g (record { at = k; coefficient = n }) else 0)
+    sums k m n true = additive.at_sum k m n
+    sums k m n false = zero-mod p ∙ sym (sum_mod-zero p 0 ∙ zero-mod p)
+
+module _ (p : ℕ) (positive : 0 < p) where
+  -- an entry of the vector that a list of terms means
+  pub entry-normal : (j : ℕ) (ts : List (Term Place)) → entry j (normal place_cmp p ts) ≡ normal monomial_cmp p (entry j ts)
+  entry-normal j ts =
+      same_from_total monomial_cmp monomial_cmp_linear p positive _ _
+      (IsCanonical-entry p j (normal place_cmp p ts) (IsCanonical-normal place_cmp place_cmp_linear p positive ts))
+      (IsCanonical-normal monomial_cmp monomial_cmp_linear p positive (entry j ts))
+      (λ g additive.
+      total-entry p j g (normal place_cmp p ts)
+      ∙ total-normal place_cmp place_cmp_linear p (at_entry j g) (at_entry-additive p j g additive) ts
+      ∙ sym (total-entry p j g ts)
+      ∙ sym (total-normal monomial_cmp monomial_cmp_linear p g additive (entry j ts)))
+
+  -- an entry of a combination is the combination of the entries
+  pub entry-combination : {C : Type 0} (j : ℕ) (monomial : C → Monomial) (row : C → List (Term Place)) (c : List (Term C))
+      → entry j (combination place_cmp place_product p monomial row c) ≡ combination monomial_cmp product p monomial (λ k. entry j (row k)) c
+  entry-combination j monomial row c =
+      sym (combination-same monomial_keys p positive monomial (λ k. entry j (row k)) c _
+      (IsCanonical-entry p j _ (IsCanonical-combination place_keys p monomial row positive c))
+      (λ g additive.
+      total-same p _ _ c (λ t. ap (λ n. n % p) (total-entry p j (λ u. g (term_product product p (factor monomial t) u)) (row t.at)))
+      ∙ sym (total-combination place_keys p monomial row (at_entry j g) (at_entry-additive p j g additive) c)
+      ∙ sym (total-entry p j g _)))
+
+-- the product of two vectors, entry by entry
+abbrev pub inner_product : ℕ → List (Term Place) → List (Term Place) → List (Term Monomial)
+inner_product p c d = combination monomial_cmp product p (λ (k : Place). k.monomial) (λ (k : Place). entry k.position d) c
+
+meets_comm : (p : ℕ) (g : Term Monomial → ℕ) (t s : Term Place)
+    → at_entry t.at.position (λ u. g (term_product product p (without_position t) u)) s ≡ at_entry s.at.position (λ u. g (term_product product p (without_position s) u)) t
+meets_comm p g t s =
+    let same : eqb s.at.position t.at.position ≡ eqb t.at.position s.at.position = grind (arith, nat_tests) in
+    λ i. if same i then g (term_product-comm p (without_position t) (without_position s) i) else 0
+
+module _ (p : ℕ) (positive : 0 < p) where
+  pub inner_product-comm : (c d : List (Term Place)) → inner_product p c d ≡ inner_product p d c
+  inner_product-comm c d =
+      combination-same monomial_keys p positive (λ k. k.monomial) (λ k. entry k.position d) c _
+      (IsCanonical-combination monomial_keys p (λ k. k.monomial) (λ k. entry k.position c) positive d)
+      (λ g additive.
+      total-same p _ _ c (λ t. ap (λ n. n % p) (total-entry p t.at.position (λ u. g (term_product product p (without_position t) u)) d))
+      ∙ total_exchange p (λ t s. at_entry t.at.position (λ u. g (term_product product p (without_position t) u)) s) c d
+      ∙ total-same p _ _ d (λ s. ap (λ n. n % p)
+      (total-same p _ _ c (λ t. ap (λ n. n % p) (meets_comm p g t s))
+      ∙ sym (total-entry p s.at.position (λ u. g (term_product product p (without_position s) u)) c)))
+      ∙ sym (total-combination monomial_keys p (λ k. k.monomial) (λ k. entry k.position c) g additive d))
+
+  -- an entry of a combination of rows is a product with a column, whose entries are the rows'
+  pub entry-row_combination : (j : ℕ) (rows : List Vector) (c column : List (Term Place)) → ((l : ℕ) → entry l column ≡ entry j (row_at rows l)) → entry j (row_combination p rows c) ≡ inner_product p c column
+  entry-row_combination j rows c column same =
+      entry-combination p positive j (λ (k : Place). k.monomial) (λ (k : Place). row_at rows k.position) c
+      ∙ (λ i. combination monomial_cmp product p (λ (k : Place). k.monomial) (λ (k : Place). sym (same k.position) i) c)
