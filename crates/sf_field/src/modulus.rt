@@ -51,6 +51,16 @@ impl Modulus {
         self.number
     }
 
+    /// Does nothing: its contract says what holds of each modulus.
+    #[tactic(auto, using(crate::proofs::Moduli::modulus_facts))]
+    pub fn facts(self)
+        ensures prime { IsPrime self }
+        ensures above_one { 1 < self }
+        ensures positive { 0 < self }
+    {
+        let _number = self.value();
+    }
+
     /// The sum of two residues.
     #[tactic(auto, using(crate::proofs::Programs::additions))]
     pub fn add(self, a: u32, b: u32) -> u32

@@ -13,6 +13,7 @@ impl Matrix {
     pub fn identity(alloc: Global, modulus: Modulus, f: &Free) -> Result<Matrix, OutOfMemory>
         ensures identity { IfOk result (λ m. m ≡ identity modulus f.now.degrees) }
     {
+        modulus.facts();
         let degrees = f.degrees.as_slice();
         let mut rows = Vec::with_capacity(alloc, degrees.len())?;
         for (position, degree) in degrees.iter().enumerate() {

@@ -1,8 +1,8 @@
 ghost use Rattle.std.specs.Prelude.{◌≡◌, IfOk};
-ghost use Rattle.std.specs.List.{AllByRecursion};
 ghost use Rattle.sf_algebra.specs.MatrixOperations.{negated};
 ghost use Rattle.sf_algebra.specs.Multiples.{negative};
-ghost use Rattle.sf_algebra.specs.Terms.{IsNonzeroResidue};
+ghost use Rattle.sf_algebra.specs.Terms.{IsCanonical};
+ghost use Rattle.sf_algebra.specs.Vectors.{place_cmp};
 
 use crate::matrix::Matrix;
 use crate::vector::{Term, Vector};
@@ -32,8 +32,9 @@ impl Matrix {
 
 /// The terms with the negatives of their coefficients.
 fn negative(alloc: Global, modulus: Modulus, terms: &[Term]) -> Result<Vec<Term>, OutOfMemory>
-    requires residues { AllByRecursion (IsNonzeroResidue modulus) terms.now }
-    ensures { IfOk result (λ v. v.items ≡ negative modulus terms.now) }
+    requires canonical { IsCanonical place_cmp modulus terms.now }
+    ensures negative { IfOk result (λ v. v.items ≡ negative modulus terms.now) }
+    ensures canonical { IfOk result (λ v. IsCanonical place_cmp modulus v.items) }
 {
     let mut negative = Vec::with_capacity(alloc, terms.len())?;
     for term in terms {

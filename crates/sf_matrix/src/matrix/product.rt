@@ -17,9 +17,10 @@ impl Matrix {
     pub fn product(&self, alloc: Global, next: &Matrix) -> Result<Matrix, OutOfMemory>
         requires modulus { next.now.modulus ≡ self.now.modulus }
         requires meet { row_degrees next.now ≡ self.now.target }
-        requires room { AllByRecursion (DegreeFits next.now.target) (row_degrees self.now) }
+        requires room { AllByRecursion (λ v. DegreeFits next.now.target v.degree) self.now.rows }
         ensures product { IfOk result (λ m. m ≡ matrix_product self.now next.now) }
     {
+        self.modulus.facts();
         let mut rows = Vec::with_capacity(alloc, self.rows.len())?;
         for row in &self.rows {
             let terms = combination(alloc, self.modulus, &row.terms, &next.rows)?;

@@ -1,0 +1,41 @@
+-- Products of terms of homogeneous vectors have room where degrees are within bounds.
+use Rattle.std.proofs.Common.{◌≡◌, ℕ, zero, suc, ◌+◌, ◌<◌, ◌≤◌, List, [], ◌∷◌, length, map, slice_index_or, ℤ, pos, ◌+ℤ◌, ◌≤ℤ◌, arith, subst, sym}
+use Rattle.std.proofs.lemmas.Int.{ints}
+use Rattle.std.specs.List.{AllByRecursion}
+use Rattle.sf_algebra.specs.Matrices.{Matrix, IsMatrix, row_degrees}
+use Rattle.sf_algebra.specs.Monomials.{Monomial, exponent_sum}
+use Rattle.sf_algebra.specs.MatrixOperations.{row_at}
+use Rattle.sf_algebra.specs.Terms.{Term, IsNonzeroResidue}
+use Rattle.sf_algebra.specs.Vectors.{Place, Vector, IsVector, generator_degree}
+use Rattle.sf_algebra.proofs.Lists.{AllByRecursion-weaken}
+use Rattle.sf_algebra.proofs.MatrixProducts.{IsHomogeneous-row_at}
+use Rattle.sf_matrix.specs.Bounds.{GREATEST_SUM, CombinationFits, DegreeFits}
+
+-- a fact of each item, of the one at a place
+pub AllByRecursion-index : {X : Type 0} (P : X → Type 0) (xs : List X) (i : ℕ) (d : X) → AllByRecursion P xs → i < length xs → P (slice_index_or xs i d)
+AllByRecursion-index P [] i d h below = absurd (omega arith)
+AllByRecursion-index P (x ∷ xs) zero d h below = h.0
+AllByRecursion-index P (x ∷ xs) (suc i) d h below = AllByRecursion-index P xs i d h.1 (omega arith)
+
+sums_fit : (d c e : ℤ) (a b : Monomial) → d ≡ c +ℤ pos (exponent_sum a) → c ≡ e +ℤ pos (exponent_sum b) → d ≤ℤ (e +ℤ pos GREATEST_SUM) → exponent_sum a + exponent_sum b ≤ GREATEST_SUM
+sums_fit d c e a b first second bound = omega (arith, ints, first, second, bound)
+
+-- a combination of homogeneous rows with homogeneous coefficients, by its degree
+pub CombinationFits-homogeneous : (p : ℕ) (degrees : List ℤ) (rows : List Vector) (v : Vector) → AllByRecursion (IsVector p degrees) rows → IsVector p (map (λ (w : Vector). w.degree) rows) v
+    → DegreeFits degrees v.degree → CombinationFits (row_at rows) v.terms
+CombinationFits-homogeneous p degrees rows v h k bound =
+    AllByRecursion-weaken _ _
+    (λ t e. AllByRecursion-weaken _ _
+    (λ u f. sums_fit v.degree _ (generator_degree degrees u.at.position) t.at.monomial u.at.monomial e.1 f.1 (AllByRecursion-index _ degrees u.at.position (pos 0) bound f.0))
+    (row_at rows t.at.position)
+    (IsHomogeneous-row_at p degrees rows h t.at.position))
+    v.terms k.homogeneous
+
+-- a row of a matrix times a matrix that goes on from its target
+pub CombinationFits-matrices : (a b : Matrix) → b.modulus ≡ a.modulus → row_degrees b ≡ a.target → IsMatrix b → (v : Vector) → IsVector a.modulus a.target v → DegreeFits b.target v.degree → CombinationFits (row_at b.rows) v.terms
+CombinationFits-matrices a b moduli meet h v k bound =
+    CombinationFits-homogeneous a.modulus b.target b.rows v (subst (λ p. AllByRecursion (IsVector p b.target) b.rows) moduli h) (subst (λ ds. IsVector a.modulus ds v) (sym meet) k) bound
+
+-- the coefficients of the rows of a matrix
+pub residues-rows : (p : ℕ) (m : Matrix) → IsMatrix m → m.modulus ≡ p → AllByRecursion (λ (v : Vector). AllByRecursion (IsNonzeroResidue p) v.terms) m.rows
+residues-rows p m h same = subst (λ q. AllByRecursion (λ (v : Vector). AllByRecursion (IsNonzeroResidue q) v.terms) m.rows) same (AllByRecursion-weaken _ _ (λ v k. k.canonical.residues) m.rows h)

@@ -1,0 +1,12 @@
+use Rattle.std.proofs.Common.{sym, subst}
+use Rattle.sf_algebra.specs.Multiples.{negative_term}
+use Rattle.sf_algebra.specs.Terms.{IsCanonical}
+use Rattle.sf_algebra.specs.Vectors.{place_cmp}
+use Rattle.sf_algebra.proofs.Negatives.{IsCanonical-negative}
+use Rattle.sf_matrix.proofs.Assembled.{mapped_all}
+use Rattle.sf_matrix.proofs.matrix.negate.negative.Goals as goal
+
+pub returns-clause-canonical : goal.returns-clause-canonical
+returns-clause-canonical c =
+    let all = mapped_all (negative_term c.args.modulus) c.args.terms.now _ _ c.loop-term-test.false c.loop-term.invariant in
+    subst (IsCanonical place_cmp c.args.modulus) (sym all) (IsCanonical-negative place_cmp c.args.modulus c.args.terms.now c.requires.canonical)
