@@ -1,3 +1,5 @@
 pub mod NameLemmas
 pub mod Assembled
 pub mod Room
+pub mod Entering
+pub mod ColumnVectors

@@ -1,5 +1,5 @@
 -- What keeps products of terms within the room of a monomial.
-use Rattle.std.specs.Prelude.{ℕ, ◌+◌, ◌≤◌, List, ℤ, pos, ◌+ℤ◌, ◌≤ℤ◌}
+use Rattle.std.specs.Prelude.{ℕ, ◌+◌, ◌≤◌, List, ℤ, pos, neg_ℤ, ◌+ℤ◌, ◌≤ℤ◌}
 use Rattle.std.specs.List.{AllByRecursion}
 use Rattle.sf_algebra.specs.Monomials.{Monomial, exponent_sum}
 use Rattle.sf_algebra.specs.Terms.{Term}
@@ -20,3 +20,11 @@ CombinationFits row c = AllByRecursion (λ (t : Term Place). MultipleFits t.at.m
 -- a degree is at most so far above each degree of a free module that a vector of this degree has room
 abbrev pub DegreeFits : List ℤ → ℤ → Type 0
 DegreeFits degrees d = AllByRecursion (λ (e : ℤ). d ≤ℤ (e +ℤ pos GREATEST_SUM)) degrees
+
+-- the greatest number of 32 bits with a sign
+abbrev pub GREATEST_DEGREE : ℤ
+GREATEST_DEGREE = pos 2147483647
+
+-- the negative of a degree has room in 32 bits
+abbrev pub HasNegative : ℤ → Type 0
+HasNegative d = neg_ℤ GREATEST_DEGREE ≤ℤ d

@@ -65,6 +65,20 @@ impl<X> List<X> {
         Ok(())
     }
 
+    /// The items as a vector of std's. It allocates nothing.
+    pub fn into_vec(self) -> Vec<X>
+        ensures items { result.items ≡ self }
+    {
+        self.items
+    }
+
+    /// The list of the items of a vector of std's. It allocates nothing.
+    pub fn from_vec(items: Vec<X>) -> List<X>
+        ensures items { result ≡ items.items }
+    {
+        List { items }
+    }
+
     /// The items, the first one first.
     pub fn as_slice(&self) -> &[X]
         ensures items { result.now ≡ self.now }

@@ -7,6 +7,7 @@ mod negate;
 mod part;
 mod product;
 mod stack;
+mod transpose;
 
 use crate::free::Free;
 use crate::vector::Vector;
