@@ -9,9 +9,11 @@ use Rattle.sf_algebra.specs.Monomials.{Monomial, product, exponent_sum, monomial
 abbrev pub DividesMultiples : Type 0
 DividesMultiples = (a b : Monomial) → Divides a b ↔ ((c : Monomial) × (product a c ≡ b))
 
+-- each monomial divides itself
 abbrev pub DividesItself : Type 0
 DividesItself = (a : Monomial) → Divides a a
 
+-- a divisor of a divisor is a divisor
 abbrev pub DividesTransitively : Type 0
 DividesTransitively = (a b c : Monomial) → Divides a b → Divides b c → Divides a c
 
