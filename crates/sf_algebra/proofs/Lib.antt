@@ -45,5 +45,9 @@ pub mod Rows
 pub mod RowParts
 pub mod UnitRows
 pub mod StackedRows
+pub mod Filters
+pub mod Degrees
+pub mod DegreeParts
+pub mod HomogeneousVectors
 pub mod Merge
 pub mod Slices

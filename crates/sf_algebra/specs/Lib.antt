@@ -19,3 +19,4 @@ pub mod Multiples
 pub mod PlaceLaws
 pub mod Polynomials
 pub mod MatrixOperations
+pub mod DegreeParts
