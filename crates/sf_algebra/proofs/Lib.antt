@@ -36,6 +36,7 @@ pub mod Keys
 pub mod Multiples
 pub mod MultipleLaws
 pub mod Negatives
+pub mod GroupLaws
 pub mod Combinations
 pub mod PrimeMultiples
 pub mod CombinationLaws

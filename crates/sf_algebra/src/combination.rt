@@ -1,0 +1,14 @@
+ghost use Rattle.sf_algebra.specs.CombinationLaws.{MultipliesRows, IsAdditiveInCoefficients, IsAdditiveInRows, TakesMultiples, TakesNegatives, IsAssociativeWithProducts, PicksRows, KeepsWithUnitRows, AddsOverStackedRows};
+
+/// Matrices act on row vectors from the right: a vector of coefficients times a matrix is the combination of its rows.
+pub fn matrices_act()
+    ensures one_coefficient { MultipliesRows }
+    ensures coefficients { IsAdditiveInCoefficients }
+    ensures rows { IsAdditiveInRows }
+    ensures multiples { TakesMultiples }
+    ensures negatives { TakesNegatives }
+    ensures products { IsAssociativeWithProducts }
+    ensures unit_coefficients { PicksRows }
+    ensures unit_rows { KeepsWithUnitRows }
+    ensures stacked_rows { AddsOverStackedRows }
+{}
