@@ -1,14 +1,26 @@
 -- What holds of the combination c M of the rows of a matrix M with the coefficients c: matrices act on row vectors from the
 -- right, additively in both and associatively. (Any textbook of linear algebra; homalg's convention.)
-use Rattle.std.specs.Prelude.{◌≡◌, ℕ, ◌<◌, List, [], ◌∷◌, ◌++◌, length, ℤ}
+use Rattle.std.specs.Prelude.{◌≡◌, if◌then◌else◌, ℕ, ◌<◌, List, [], ◌∷◌, ◌++◌, length, ℤ}
 use Rattle.std.specs.List.{AllByRecursion}
+use Rattle.std.specs.Ordering.{is_eq}
 use Rattle.sf_algebra.specs.Matrices.{Matrix}
 use Rattle.sf_algebra.specs.MatrixOperations.{row_at, row_combination, unit_vector, unit_rows, matrix_product, moved}
 use Rattle.sf_algebra.specs.Monomials.{Monomial}
 use Rattle.sf_algebra.specs.Multiples.{place_product, multiple, negative}
-use Rattle.sf_algebra.specs.Sums.{add}
+use Rattle.sf_algebra.specs.Residues.{product_mod}
+use Rattle.sf_algebra.specs.Sums.{add, total, coefficient_at}
 use Rattle.sf_algebra.specs.Terms.{Term, IsCanonical}
 use Rattle.sf_algebra.specs.Vectors.{Place, Vector, place_cmp}
+
+-- the product of the coefficients of a term of c and a term of its row whose product stands at k, and 0 for other terms
+abbrev pub combination_part : ℕ → Place → Term Place → Term Place → ℕ
+combination_part p k t u = if is_eq (place_cmp (place_product t.at.monomial u.at) k) then product_mod p t.coefficient u.coefficient else 0
+
+-- the coefficient of c M at k is the sum, over the terms of c and of their rows whose product stands at k, of the products of their coefficients
+abbrev pub SumsProductsOfCoefficients : Type 0
+SumsProductsOfCoefficients =
+    (p : ℕ) (rows : List Vector) (c : List (Term Place)) (k : Place)
+    → coefficient_at place_cmp p k (row_combination p rows c) ≡ total p (λ t. total p (combination_part p k t) (row_at rows t.at.position)) c
 
 -- one coefficient gives the multiple of the row at its position by its monomial
 abbrev pub MultipliesRows : Type 0

@@ -1,17 +1,24 @@
 -- What holds of multiples by terms of polynomials, in an order cmp of the places at which terms stand, on which the monomials
 -- act. (Any textbook of algebra: the laws of a module.)
-use Rattle.std.specs.Prelude.{◌≡◌, ℕ, ◌<◌, List, map}
+use Rattle.std.specs.Prelude.{◌≡◌, if◌then◌else◌, ℕ, ◌<◌, List, map}
 use Rattle.std.specs.declared.cmp.Ordering.{Ordering}
+use Rattle.std.specs.Ordering.{is_eq}
 use Rattle.sf_algebra.specs.Monomials.{Monomial, one, product}
 use Rattle.sf_algebra.specs.Multiples.{term_product, multiple, negative}
 use Rattle.sf_algebra.specs.Primes.{IsPrime}
-use Rattle.sf_algebra.specs.Residues.{sum_mod, negative_mod}
-use Rattle.sf_algebra.specs.Sums.{add}
+use Rattle.sf_algebra.specs.Residues.{sum_mod, negative_mod, product_mod}
+use Rattle.sf_algebra.specs.Sums.{add, total, coefficient_at}
 use Rattle.sf_algebra.specs.Terms.{Term, IsNonzeroResidue, IsCanonical}
 
 -- a multiple is canonical
 abbrev pub HasCanonicalMultiples : {K : Type 0} → (K → K → Ordering) → (Monomial → K → K) → Type 0
 HasCanonicalMultiples {K} cmp act = (p : ℕ) → 0 < p → (s : Term Monomial) (us : List (Term K)) → IsCanonical cmp p (multiple cmp act p s us)
+
+-- the coefficient of a multiple at k: the sum of the products of the coefficients, over the terms whose product stands at k
+abbrev pub MultipliesCoefficients : {K : Type 0} → (K → K → Ordering) → (Monomial → K → K) → Type 0
+MultipliesCoefficients {K} cmp act =
+    (p : ℕ) (s : Term Monomial) (us : List (Term K)) (k : K)
+    → coefficient_at cmp p k (multiple cmp act p s us) ≡ total p (λ u. if is_eq (cmp (act s.at u.at) k) then product_mod p s.coefficient u.coefficient else 0) us
 
 -- a canonical list times 1 is the list
 abbrev pub KeepsWithOne : {K : Type 0} → (K → K → Ordering) → (Monomial → K → K) → Type 0

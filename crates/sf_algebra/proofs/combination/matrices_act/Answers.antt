@@ -1,4 +1,7 @@
 use Rattle.std.proofs.Common.{refl, sym}
+use Rattle.sf_algebra.specs.MatrixOperations.{row_at}
+use Rattle.sf_algebra.proofs.Combinations.{coefficient_at-combination}
+use Rattle.sf_algebra.proofs.Keys.{place_keys}
 use Rattle.sf_algebra.proofs.Rows.{row_combination-one, row_combination-add, row_combination-add_rows, row_combination-multiple, row_combination-negative, row_combination-matrix_product}
 use Rattle.sf_algebra.proofs.StackedRows.{row_combination-stacked}
 use Rattle.sf_algebra.proofs.UnitRows.{row_combination-unit, row_combination-unit_rows}
@@ -6,6 +9,7 @@ use Rattle.sf_algebra.proofs.combination.matrices_act.Goals as goal
 
 pub returns : goal.returns
 returns c = record {
+  product_coefficients = λ p rows c k. coefficient_at-combination place_keys p (λ l. l.monomial) (λ l. row_at rows l.position) k c;
   one_coefficient = row_combination-one;
   coefficients = row_combination-add;
   rows = row_combination-add_rows;
