@@ -3,7 +3,7 @@ use Rattle.std.proofs.Common.{◌≡◌, ℕ, ◌<◌, List, [], length, subst, 
 use Rattle.std.proofs.lemmas.Int.{ints}
 use Rattle.sf_algebra.specs.DegreeParts.{degree_part}
 use Rattle.sf_algebra.specs.Matrices.{Matrix, IsMatrix, row_degrees}
-use Rattle.sf_algebra.specs.MatrixOperations.{row_combination, unit_vector}
+use Rattle.sf_algebra.specs.MatrixOperations.{row_combination, identity, unit_vector}
 use Rattle.sf_algebra.specs.Monomials.{Monomial, exponent_sum}
 use Rattle.sf_algebra.specs.Multiples.{place_product, multiple, negative}
 use Rattle.sf_algebra.specs.Sums.{add}
@@ -20,6 +20,7 @@ use Rattle.sf_algebra.proofs.Normal.{IsCanonical-add}
 use Rattle.sf_algebra.proofs.Orders.{place_cmp_linear}
 use Rattle.sf_algebra.proofs.RowParts.{HasCanonicalRows}
 use Rattle.sf_algebra.proofs.Rows.{IsCanonical-row_combination}
+use Rattle.sf_algebra.proofs.UnitRows.{row_combination-unit_rows}
 
 module _ (p : ℕ) (degrees : List ℤ) where
   pub IsVector-add : 0 < p → (d : ℤ) (us vs : List (Term Place)) → IsVector p degrees (record { degree = d; terms = us }) → IsVector p degrees (record { degree = d; terms = vs })
@@ -50,6 +51,11 @@ module _ (p : ℕ) (degrees : List ℤ) where
 
   pub IsVector-degree_part : (d : ℤ) (v : Vector) → IsVector p degrees v → IsVector p degrees (record { degree = d; terms = degree_part degrees d v.terms })
   IsVector-degree_part d v h = record { canonical = IsCanonical-filter _ place_cmp p v.terms h.canonical; homogeneous = IsHomogeneous-degree_part degrees d v.terms }
+
+-- a vector times the identity
+pub row_combination-identity : (p : ℕ) → 0 < p → (degrees : List ℤ) (v : Vector) → IsVector p degrees v → row_combination p (identity p degrees).rows v.terms ≡ v.terms
+row_combination-identity p positive degrees v h =
+    row_combination-unit_rows p positive degrees v.terms h.canonical (AllByRecursion-weaken _ _ (λ t k. k.0) v.terms h.homogeneous)
 
 -- the rows of a matrix are homogeneous and canonical
 pub HasHomogeneousRows-from_IsMatrix : (m : Matrix) → IsMatrix m → HasHomogeneousRows m.target m.rows

@@ -3,8 +3,8 @@
 use Rattle.std.specs.Prelude.{◌≡◌, if◌then◌else◌, ℕ, ◌<◌, List, [], ◌∷◌, ◌++◌, length, ℤ}
 use Rattle.std.specs.List.{AllByRecursion}
 use Rattle.std.specs.Ordering.{is_eq}
-use Rattle.sf_algebra.specs.Matrices.{Matrix}
-use Rattle.sf_algebra.specs.MatrixOperations.{row_at, row_combination, unit_vector, unit_rows, matrix_product, moved}
+use Rattle.sf_algebra.specs.Matrices.{Matrix, IsMatrix}
+use Rattle.sf_algebra.specs.MatrixOperations.{row_at, row_combination, unit_vector, unit_rows, matrix_product, negated, moved}
 use Rattle.sf_algebra.specs.Monomials.{Monomial}
 use Rattle.sf_algebra.specs.Multiples.{place_product, multiple, negative}
 use Rattle.sf_algebra.specs.Residues.{product_mod}
@@ -51,6 +51,12 @@ abbrev pub TakesNegatives : Type 0
 TakesNegatives =
     (p : ℕ) → 0 < p → (rows : List Vector) (c : List (Term Place)) → IsCanonical place_cmp p c
     → row_combination p rows (negative p c) ≡ negative p (row_combination p rows c)
+
+-- the combination of the rows of the negative of a matrix
+abbrev pub NegatesWithMatrices : Type 0
+NegatesWithMatrices =
+    (m : Matrix) → 0 < m.modulus → IsMatrix m → (c : List (Term Place))
+    → row_combination m.modulus (negated m).rows c ≡ negative m.modulus (row_combination m.modulus m.rows c)
 
 -- (c M) N is c (M N)
 abbrev pub IsAssociativeWithProducts : Type 0

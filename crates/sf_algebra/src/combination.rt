@@ -1,4 +1,4 @@
-ghost use Rattle.sf_algebra.specs.CombinationLaws.{SumsProductsOfCoefficients, MultipliesRows, IsAdditiveInCoefficients, IsAdditiveInRows, TakesMultiples, TakesNegatives, IsAssociativeWithProducts, PicksRows, KeepsWithUnitRows, AddsOverStackedRows};
+ghost use Rattle.sf_algebra.specs.CombinationLaws.{SumsProductsOfCoefficients, MultipliesRows, IsAdditiveInCoefficients, IsAdditiveInRows, TakesMultiples, TakesNegatives, NegatesWithMatrices, IsAssociativeWithProducts, PicksRows, KeepsWithUnitRows, AddsOverStackedRows};
 
 /// Matrices act on row vectors from the right: a vector of coefficients times a matrix is the combination of its rows.
 pub fn matrices_act()
@@ -8,6 +8,7 @@ pub fn matrices_act()
     ensures rows { IsAdditiveInRows }
     ensures multiples { TakesMultiples }
     ensures negatives { TakesNegatives }
+    ensures negated_rows { NegatesWithMatrices }
     ensures products { IsAssociativeWithProducts }
     ensures unit_coefficients { PicksRows }
     ensures unit_rows { KeepsWithUnitRows }
