@@ -21,6 +21,7 @@ pub mod NegatedMatrices
 pub mod MatrixProducts
 pub mod ProductLaws
 pub mod EntryTotals
+pub mod EntryProducts
 pub mod TransposedProducts
 pub mod Residues
 pub mod Primes

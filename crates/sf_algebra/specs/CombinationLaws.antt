@@ -1,16 +1,17 @@
 -- What holds of the combination c M of the rows of a matrix M with the coefficients c: matrices act on row vectors from the
 -- right, additively in both and associatively. (Any textbook of linear algebra; homalg's convention.)
-use Rattle.std.specs.Prelude.{◌≡◌, if◌then◌else◌, ℕ, ◌<◌, List, [], ◌∷◌, ◌++◌, length, ℤ}
+use Rattle.std.specs.Prelude.{◌≡◌, if◌then◌else◌, ℕ, suc, ◌<◌, List, [], ◌∷◌, ◌++◌, length, ℤ}
 use Rattle.std.specs.List.{AllByRecursion}
 use Rattle.std.specs.Ordering.{is_eq}
 use Rattle.sf_algebra.specs.Matrices.{Matrix, IsMatrix}
 use Rattle.sf_algebra.specs.MatrixOperations.{row_at, row_combination, unit_vector, unit_rows, matrix_product, negated, moved}
-use Rattle.sf_algebra.specs.Monomials.{Monomial}
+use Rattle.sf_algebra.specs.Monomials.{Monomial, monomial_cmp}
 use Rattle.sf_algebra.specs.Multiples.{place_product, multiple, negative}
+use Rattle.sf_algebra.specs.Polynomials.{polynomial_product}
 use Rattle.sf_algebra.specs.Residues.{product_mod}
 use Rattle.sf_algebra.specs.Sums.{add, total, coefficient_at}
 use Rattle.sf_algebra.specs.Terms.{Term, IsCanonical}
-use Rattle.sf_algebra.specs.Vectors.{Place, Vector, place_cmp}
+use Rattle.sf_algebra.specs.Vectors.{Place, Vector, place_cmp, entry}
 
 -- the product of the coefficients of a term of c and a term of its row whose product stands at k, and 0 for other terms
 abbrev pub combination_part : ℕ → Place → Term Place → Term Place → ℕ
@@ -21,6 +22,16 @@ abbrev pub SumsProductsOfCoefficients : Type 0
 SumsProductsOfCoefficients =
     (p : ℕ) (rows : List Vector) (c : List (Term Place)) (k : Place)
     → coefficient_at place_cmp p k (row_combination p rows c) ≡ total p (λ t. total p (combination_part p k t) (row_at rows t.at.position)) c
+
+-- the sum, over rows that stand from position i on, of the products of the entries of c at their positions and their entries at j
+abbrev pub entry_products : ℕ → ℕ → List (Term Place) → ℕ → List Vector → List (Term Monomial)
+entry_products p j c i [] = []
+entry_products p j c i (v ∷ vs) = add monomial_cmp p (polynomial_product p (entry i c) (entry j v.terms)) (entry_products p j c (suc i) vs)
+
+-- the entries of c M are the sums of the products of the entries of c and those of a column of M
+abbrev pub SumsProductsOfEntries : Type 0
+SumsProductsOfEntries =
+    (p : ℕ) → 0 < p → (rows : List Vector) (c : List (Term Place)) (j : ℕ) → entry j (row_combination p rows c) ≡ entry_products p j c 0 rows
 
 -- one coefficient gives the multiple of the row at its position by its monomial
 abbrev pub MultipliesRows : Type 0

@@ -1,6 +1,7 @@
 use Rattle.std.proofs.Common.{refl, sym}
 use Rattle.sf_algebra.specs.MatrixOperations.{row_at}
 use Rattle.sf_algebra.proofs.Combinations.{coefficient_at-combination}
+use Rattle.sf_algebra.proofs.EntryProducts.{entry-row_combination_products}
 use Rattle.sf_algebra.proofs.HomogeneousVectors.{HasCanonicalRows-from_IsMatrix}
 use Rattle.sf_algebra.proofs.Keys.{place_keys}
 use Rattle.sf_algebra.proofs.RowParts.{row_combination-negated}
@@ -12,6 +13,7 @@ use Rattle.sf_algebra.proofs.combination.matrices_act.Goals as goal
 pub returns : goal.returns
 returns c = record {
   product_coefficients = λ p rows c k. coefficient_at-combination place_keys p (λ l. l.monomial) (λ l. row_at rows l.position) k c;
+  entries = entry-row_combination_products;
   one_coefficient = row_combination-one;
   coefficients = row_combination-add;
   rows = row_combination-add_rows;
