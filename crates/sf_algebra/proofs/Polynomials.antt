@@ -46,7 +46,7 @@ module _ (p : ℕ) (positive : 0 < p) where
   pub polynomial_product-negative : (u v : List (Term Monomial)) → IsCanonical monomial_cmp p u → polynomial_product p (negative p u) v ≡ negative p (polynomial_product p u v)
   polynomial_product-negative u v h = combination-negative monomial_keys monomial_keys p positive (λ a. a) (λ _. v) (constant_rows v) u h
 
-  -- the same in the second factor
+  -- additive in the second factor too
   pub polynomial_product-add_second : (u v w : List (Term Monomial)) → polynomial_product p u (add monomial_cmp p v w) ≡ add monomial_cmp p (polynomial_product p u v) (polynomial_product p u w)
   polynomial_product-add_second u v w = combination-add_rows monomial_keys p positive (λ a. a) (λ _. v) (λ _. w) u
 

@@ -13,6 +13,10 @@ use Rattle.sf_algebra.specs.Sums.{add, total, coefficient_at}
 use Rattle.sf_algebra.specs.Terms.{Term, IsCanonical}
 use Rattle.sf_algebra.specs.Vectors.{Place, Vector, place_cmp, entry}
 
+-- a combination is canonical
+abbrev pub HasCanonicalCombinations : Type 0
+HasCanonicalCombinations = (p : ℕ) → 0 < p → (rows : List Vector) (c : List (Term Place)) → IsCanonical place_cmp p (row_combination p rows c)
+
 -- the product of the coefficients of a term of c and a term of its row whose product stands at k, and 0 for other terms
 abbrev pub combination_part : ℕ → Place → Term Place → Term Place → ℕ
 combination_part p k t u = if is_eq (place_cmp (place_product t.at.monomial u.at) k) then product_mod p t.coefficient u.coefficient else 0
