@@ -61,6 +61,18 @@ module _ {C K : Type 0} (keys : Keys K) (p : ℕ) (positive : 0 < p) (monomial :
       ∙ (λ i. sum_mod p (sym (total-combination keys p monomial row g additive c) i) (sym (total-combination keys p monomial row g additive d) i))
       ∙ sym (total-add keys.cmp keys.order p g additive _ _))
 
+  -- one coefficient more, in front
+  pub combination-cons : (row : C → List (Term K)) (t : Term C) (c : List (Term C))
+      → combination keys.cmp keys.act p monomial row (t ∷ c) ≡ add keys.cmp p (multiple keys.cmp keys.act p (factor monomial t) (row t.at)) (combination keys.cmp keys.act p monomial row c)
+  combination-cons row t c =
+      combination-append row (t ∷ []) c ∙ ap (λ us. add keys.cmp p us (combination keys.cmp keys.act p monomial row c)) (combination-one row t)
+
+  -- one coefficient more, behind, as a loop adds it
+  pub combination-push : (row : C → List (Term K)) (c : List (Term C)) (t : Term C)
+      → combination keys.cmp keys.act p monomial row (c ++ t ∷ []) ≡ add keys.cmp p (combination keys.cmp keys.act p monomial row c) (multiple keys.cmp keys.act p (factor monomial t) (row t.at))
+  combination-push row c t =
+      combination-append row c (t ∷ []) ∙ ap (add keys.cmp p (combination keys.cmp keys.act p monomial row c)) (combination-one row t)
+
   -- a combination of sums
   pub combination-add_rows : (row other : C → List (Term K)) (c : List (Term C))
       → combination keys.cmp keys.act p monomial (λ k. add keys.cmp p (row k) (other k)) c ≡ add keys.cmp p (combination keys.cmp keys.act p monomial row c) (combination keys.cmp keys.act p monomial other c)

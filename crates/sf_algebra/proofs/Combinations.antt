@@ -2,8 +2,9 @@
 use Rattle.std.proofs.Common.{◌≡◌, ℕ, ◌%◌, ◌<◌, List, map, ◌∙◌, ap}
 use Rattle.sf_algebra.specs.Monomials.{Monomial}
 use Rattle.sf_algebra.specs.Multiples.{term_product, combination_terms, combination}
-use Rattle.sf_algebra.specs.Sums.{total}
+use Rattle.sf_algebra.specs.Sums.{total, part_at, coefficient_at}
 use Rattle.sf_algebra.specs.Terms.{Term, IsCanonical}
+use Rattle.sf_algebra.proofs.Coefficients.{part_at-additive}
 use Rattle.sf_algebra.proofs.DoubleTotals.{total-additive, total-flat_map, total-map, total-same}
 use Rattle.sf_algebra.proofs.Keys.{Keys}
 use Rattle.sf_algebra.proofs.Multiples.{term_product-additive_first}
@@ -33,3 +34,8 @@ module _ {C K : Type 0} (keys : Keys K) (p : ℕ) (monomial : C → Monomial) (r
         total-normal keys.cmp keys.order p g additive (combination_terms keys.act p monomial row c)
         ∙ total-flat_map p g (λ t. map (term_product keys.act p (factor monomial t)) (row t.at)) c
         ∙ total-same p _ _ c (λ t. ap (λ n. n % p) (total-map p g (term_product keys.act p (factor monomial t)) (row t.at)))
+
+  -- the coefficient at k, by the shares of the coefficients there
+  pub coefficient_at-combination : (k : K) (c : List (Term C))
+      → coefficient_at keys.cmp p k (combination keys.cmp keys.act p monomial row c) ≡ total p (share keys.act p monomial row (part_at keys.cmp k)) c
+  coefficient_at-combination k c = total-combination (part_at keys.cmp k) (part_at-additive keys.cmp p k) c

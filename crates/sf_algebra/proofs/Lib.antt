@@ -21,6 +21,7 @@ pub mod NegatedMatrices
 pub mod MatrixProducts
 pub mod ProductLaws
 pub mod EntryTotals
+pub mod EntryProducts
 pub mod TransposedProducts
 pub mod Residues
 pub mod Primes
@@ -36,6 +37,7 @@ pub mod Keys
 pub mod Multiples
 pub mod MultipleLaws
 pub mod Negatives
+pub mod GroupLaws
 pub mod Combinations
 pub mod PrimeMultiples
 pub mod CombinationLaws
@@ -45,5 +47,9 @@ pub mod Rows
 pub mod RowParts
 pub mod UnitRows
 pub mod StackedRows
+pub mod Filters
+pub mod Degrees
+pub mod DegreeParts
+pub mod HomogeneousVectors
 pub mod Merge
 pub mod Slices

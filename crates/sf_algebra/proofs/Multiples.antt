@@ -3,8 +3,9 @@ use Rattle.std.proofs.Common.{◌≡◌, ℕ, ◌%◌, ◌<◌, List, map, ◌�
 use Rattle.sf_algebra.specs.Monomials.{Monomial}
 use Rattle.sf_algebra.specs.Multiples.{term_product, multiple}
 use Rattle.sf_algebra.specs.Residues.{sum_mod}
-use Rattle.sf_algebra.specs.Sums.{total}
+use Rattle.sf_algebra.specs.Sums.{total, part_at, coefficient_at}
 use Rattle.sf_algebra.specs.Terms.{Term, IsCanonical}
+use Rattle.sf_algebra.proofs.Coefficients.{part_at-additive}
 use Rattle.sf_algebra.proofs.DoubleTotals.{total-map}
 use Rattle.sf_algebra.proofs.Keys.{Keys}
 use Rattle.sf_algebra.proofs.Normal.{IsCanonical-normal}
@@ -42,3 +43,7 @@ module _ {K : Type 0} (keys : Keys K) (p : ℕ) where
   total-multiple g additive s ts =
       total-normal keys.cmp keys.order p g additive (map (term_product keys.act p s) ts)
       ∙ total-map p g (term_product keys.act p s) ts
+
+  pub coefficient_at-multiple : (k : K) (s : Term Monomial) (us : List (Term K))
+      → coefficient_at keys.cmp p k (multiple keys.cmp keys.act p s us) ≡ total p (λ u. part_at keys.cmp k (term_product keys.act p s u)) us
+  coefficient_at-multiple k s us = total-multiple (part_at keys.cmp k) (part_at-additive keys.cmp p k) s us

@@ -1,13 +1,13 @@
 -- Polynomials with sums and products are a commutative ring.
-use Rattle.std.proofs.Common.{◌≡◌, ℕ, ◌%◌, ◌<◌, List, [], ◌∷◌, refl, sym, ◌∙◌, ap}
+use Rattle.std.proofs.Common.{◌≡◌, ℕ, ◌%◌, ◌<◌, List, [], ◌∷◌, ◌++◌, refl, sym, ◌∙◌, ap}
 use Rattle.sf_algebra.specs.Monomials.{Monomial, product, monomial_cmp}
-use Rattle.sf_algebra.specs.Multiples.{negative, term_product}
+use Rattle.sf_algebra.specs.Multiples.{multiple, negative, term_product}
 use Rattle.sf_algebra.specs.Polynomials.{polynomial_product}
 use Rattle.sf_algebra.specs.Sums.{add, total, part_at, coefficient_at}
 use Rattle.sf_algebra.specs.Terms.{Term, IsCanonical}
-use Rattle.sf_algebra.proofs.Associativity.{IsOfRows, combination_combination, combination-negative}
+use Rattle.sf_algebra.proofs.Associativity.{IsOfRows, combination_combination, combination-multiple, combination-negative}
 use Rattle.sf_algebra.proofs.Coefficients.{part_at-additive}
-use Rattle.sf_algebra.proofs.CombinationLaws.{combination-add, combination-nil, combination-one, combination-same}
+use Rattle.sf_algebra.proofs.CombinationLaws.{combination-add, combination-add_rows, combination-append, combination-cons, combination-push, combination-nil, combination-one, combination-same}
 use Rattle.sf_algebra.proofs.Combinations.{IsCanonical-combination, total-combination}
 use Rattle.sf_algebra.proofs.DoubleTotals.{total_exchange, total-same}
 use Rattle.sf_algebra.proofs.Keys.{monomial_keys}
@@ -45,6 +45,32 @@ module _ (p : ℕ) (positive : 0 < p) where
 
   pub polynomial_product-negative : (u v : List (Term Monomial)) → IsCanonical monomial_cmp p u → polynomial_product p (negative p u) v ≡ negative p (polynomial_product p u v)
   polynomial_product-negative u v h = combination-negative monomial_keys monomial_keys p positive (λ a. a) (λ _. v) (constant_rows v) u h
+
+  -- additive in the second factor too
+  pub polynomial_product-add_second : (u v w : List (Term Monomial)) → polynomial_product p u (add monomial_cmp p v w) ≡ add monomial_cmp p (polynomial_product p u v) (polynomial_product p u w)
+  polynomial_product-add_second u v w = combination-add_rows monomial_keys p positive (λ a. a) (λ _. v) (λ _. w) u
+
+  pub polynomial_product-nil_second : (u : List (Term Monomial)) → polynomial_product p u [] ≡ []
+  polynomial_product-nil_second u = polynomial_product-comm u [] ∙ polynomial_product-nil u
+
+  -- a first factor of one term gives the multiple
+  pub polynomial_product-one_term : (t : Term Monomial) (v : List (Term Monomial)) → polynomial_product p (t ∷ []) v ≡ multiple monomial_cmp product p t v
+  polynomial_product-one_term t v = combination-one monomial_keys p positive (λ a. a) (λ _. v) t
+
+  -- one term more in the first factor, in front
+  pub polynomial_product-cons : (t : Term Monomial) (u v : List (Term Monomial)) → polynomial_product p (t ∷ u) v ≡ add monomial_cmp p (multiple monomial_cmp product p t v) (polynomial_product p u v)
+  polynomial_product-cons t u v = combination-cons monomial_keys p positive (λ a. a) (λ _. v) t u
+
+  -- one term more, behind, as a loop adds it
+  pub polynomial_product-push : (u : List (Term Monomial)) (t : Term Monomial) (v : List (Term Monomial)) → polynomial_product p (u ++ t ∷ []) v ≡ add monomial_cmp p (polynomial_product p u v) (multiple monomial_cmp product p t v)
+  polynomial_product-push u t v = combination-push monomial_keys p positive (λ a. a) (λ _. v) u t
+
+  -- two lists of terms of the first factor, one after the other
+  pub polynomial_product-append : (u v w : List (Term Monomial)) → polynomial_product p (u ++ v) w ≡ add monomial_cmp p (polynomial_product p u w) (polynomial_product p v w)
+  polynomial_product-append u v w = combination-append monomial_keys p positive (λ a. a) (λ _. w) u v
+
+  pub polynomial_product-multiple : (s : Term Monomial) (u v : List (Term Monomial)) → polynomial_product p (multiple monomial_cmp product p s u) v ≡ multiple monomial_cmp product p s (polynomial_product p u v)
+  polynomial_product-multiple s u v = combination-multiple monomial_keys monomial_keys p positive (λ a. a) (λ _. v) (constant_rows v) s u
 
 -- the coefficient of a product is the sum of the products of those pairs of coefficients whose terms' product stands there
 pub coefficient_at-polynomial_product : (p : ℕ) (k : Monomial) (u v : List (Term Monomial))

@@ -8,7 +8,7 @@ use Rattle.sf_algebra.specs.Sums.{add}
 use Rattle.sf_algebra.specs.Terms.{Term, IsCanonical}
 use Rattle.sf_algebra.specs.Vectors.{Place, Vector, place_cmp}
 use Rattle.sf_algebra.proofs.Associativity.{IsOfRows, combination_combination, combination-multiple, combination-negative}
-use Rattle.sf_algebra.proofs.CombinationLaws.{combination-add, combination-add_rows, combination-append, combination-nil, combination-one}
+use Rattle.sf_algebra.proofs.CombinationLaws.{combination-add, combination-add_rows, combination-append, combination-cons, combination-push, combination-nil, combination-one}
 use Rattle.sf_algebra.proofs.Combinations.{IsCanonical-combination}
 use Rattle.sf_algebra.proofs.Keys.{place_keys}
 
@@ -53,6 +53,16 @@ module _ (p : ℕ) (positive : 0 < p) where
   -- two lists of coefficients one after the other
   pub row_combination-append : (rows : List Vector) (c d : List (Term Place)) → row_combination p rows (c ++ d) ≡ add place_cmp p (row_combination p rows c) (row_combination p rows d)
   row_combination-append rows c d = combination-append place_keys p positive (λ k. k.monomial) (λ k. row_at rows k.position) c d
+
+  -- one coefficient more, in front
+  pub row_combination-cons : (rows : List Vector) (t : Term Place) (c : List (Term Place))
+      → row_combination p rows (t ∷ c) ≡ add place_cmp p (multiple place_cmp place_product p (record { at = t.at.monomial; coefficient = t.coefficient }) (row_at rows t.at.position)) (row_combination p rows c)
+  row_combination-cons rows t c = combination-cons place_keys p positive (λ k. k.monomial) (λ k. row_at rows k.position) t c
+
+  -- one coefficient more, behind, as a loop adds it
+  pub row_combination-push : (rows : List Vector) (c : List (Term Place)) (t : Term Place)
+      → row_combination p rows (c ++ t ∷ []) ≡ add place_cmp p (row_combination p rows c) (multiple place_cmp place_product p (record { at = t.at.monomial; coefficient = t.coefficient }) (row_at rows t.at.position))
+  row_combination-push rows c t = combination-push place_keys p positive (λ k. k.monomial) (λ k. row_at rows k.position) c t
 
   -- additive in the coefficients
   pub row_combination-add : (rows : List Vector) (c d : List (Term Place)) → row_combination p rows (add place_cmp p c d) ≡ add place_cmp p (row_combination p rows c) (row_combination p rows d)

@@ -10,6 +10,7 @@ pub mod OrderInWords
 pub mod Terms
 pub mod Sums
 pub mod SumLaws
+pub mod GroupLaws
 pub mod Vectors
 pub mod Numbers
 pub mod NumberLaws
@@ -19,3 +20,8 @@ pub mod Multiples
 pub mod PlaceLaws
 pub mod Polynomials
 pub mod MatrixOperations
+pub mod DegreeParts
+pub mod MultipleLaws
+pub mod RingLaws
+pub mod CombinationLaws
+pub mod HomogeneousLaws

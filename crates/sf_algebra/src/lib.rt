@@ -4,16 +4,24 @@
 //! contract of each is a law of the definitions.
 #![tactic(auto)]
 
+mod combination;
 mod divisibility;
+mod multiple;
 mod number;
 mod order;
 mod place;
+mod polynomial;
 mod product;
 mod sum;
+mod vector;
 
+pub use combination::matrices_act;
 pub use divisibility::{monomial_divisors, monomial_multiples, monomial_quotients};
+pub use multiple::{multiples_act, multiples_of_polynomials_act};
 pub use number::{monomial_numbers, place_numbers};
 pub use order::{monomial_order, monomial_order_in_words, place_order};
 pub use place::place_products;
+pub use polynomial::polynomials_are_a_ring;
 pub use product::monomial_products;
 pub use sum::{polynomial_sums, vector_sums};
+pub use vector::{vectors_are_a_group, vectors_are_graded};

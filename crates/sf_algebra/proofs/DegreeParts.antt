@@ -1,0 +1,110 @@
+-- A homogeneous combination is the combination with those coefficients alone that have its degree.
+use Rattle.std.proofs.Common.{◌≡◌, ℕ, ◌%◌, ◌<◌, if◌then◌else◌, Bool, true, false, nat_lt, ◌&&◌, int_eq, inl, inr, List, length, refl, sym, ◌∙◌, ap, arith, ℤ, pos, ◌+ℤ◌}
+use Rattle.std.proofs.Math.Nat.{zero-mod}
+use Rattle.std.proofs.lemmas.Bool.{and_parts, cases_lt}
+use Rattle.std.proofs.lemmas.Bool.Decides.{Decides-int_eq, nat_tests}
+use Rattle.std.proofs.lemmas.List.{length-map}
+use Rattle.sf_algebra.specs.DegreeParts.{has_degree, degree_part}
+use Rattle.sf_algebra.specs.MatrixOperations.{row_at, row_combination}
+use Rattle.sf_algebra.specs.Monomials.{exponent_sum}
+use Rattle.sf_algebra.specs.Multiples.{place_product, term_product}
+use Rattle.sf_algebra.specs.Residues.{sum_mod}
+use Rattle.sf_algebra.specs.Sums.{total}
+use Rattle.sf_algebra.specs.Terms.{Term}
+use Rattle.sf_algebra.specs.Vectors.{Place, Vector, generator_degree, term_degree, IsTermOfDegree, IsHomogeneous}
+use Rattle.sf_algebra.proofs.CombinationLaws.{combination-same}
+use Rattle.sf_algebra.proofs.Combinations.{factor, share, total-combination}
+use Rattle.sf_algebra.proofs.Degrees.{degrees_of, HasHomogeneousRows, IsHomogeneous-row_at, term_degree-term_product}
+use Rattle.sf_algebra.proofs.DoubleTotals.{total-each, total-same, total-zero}
+use Rattle.sf_algebra.proofs.Filters.{AllByRecursion-filter, total-filter}
+use Rattle.sf_algebra.proofs.Keys.{place_keys}
+use Rattle.sf_algebra.proofs.Lists.{AllByRecursion-weaken}
+use Rattle.sf_algebra.proofs.Residues.{sum_mod-zero}
+use Rattle.sf_algebra.proofs.Rows.{IsCanonical-row_combination, row_at-past}
+use Rattle.sf_algebra.proofs.Totals.{IsAdditive, total-nil}
+
+pub IsHomogeneous-degree_part : (degrees : List ℤ) (d : ℤ) (ts : List (Term Place)) → IsHomogeneous degrees d (degree_part degrees d ts)
+IsHomogeneous-degree_part degrees d ts =
+    AllByRecursion-filter (IsTermOfDegree degrees d) (has_degree degrees d) ts (λ t e.
+    let parts : (nat_lt t.at.position (length degrees) ≡ true) × (int_eq d (term_degree degrees t) ≡ true) = and_parts _ _ e in
+    (below t.at.position (length degrees) parts.0, (Decides-int_eq d (term_degree degrees t)).0 parts.1))
+  where
+    below : (i n : ℕ) → nat_lt i n ≡ true → i < n
+    below i n e = grind (arith, nat_tests)
+
+-- a number for each term of degree d, and 0 for the others
+abbrev pub at_degree : List ℤ → ℤ → (Term Place → ℕ) → Term Place → ℕ
+at_degree degrees d g t = if int_eq d (term_degree degrees t) then g t else 0
+
+module _ (degrees : List ℤ) (d : ℤ) (p : ℕ) (g : Term Place → ℕ) where
+  pub at_degree-additive : IsAdditive p g → IsAdditive p (at_degree degrees d g)
+  at_degree-additive additive = record {
+    at_zero = λ k. zeros k (int_eq d (term_degree degrees (record { at = k; coefficient = 0 })));
+    at_sum = λ k a b. sums k a b (int_eq d (term_degree degrees (record { at = k; coefficient = 0 })));
+  }
+    where
+      zeros : (k : Place) (b : Bool) → (if b then g (record { at = k; coefficient = 0 }) else 0) % p ≡ 0
+      zeros k true = additive.at_zero k
+      zeros k false = zero-mod p
+
+      sums : (k : Place) (m n : ℕ) (b : Bool)
+          → (if b then g (record { at = k; coefficient = sum_mod p m n }) else 0) % p
+          ≡ sum_mod p (if b then g (record { at = k; coefficient = m }) else 0) (if b then g (record { at = k; coefficient = n }) else 0)
+      sums k m n true = additive.at_sum k m n
+      sums k m n false = sym (sum_mod-zero p 0)
+
+  -- over a homogeneous list the other terms are none
+  pub total-at_degree : (ts : List (Term Place)) → IsHomogeneous degrees d ts → total p (at_degree degrees d g) ts ≡ total p g ts
+  total-at_degree ts h =
+      total-each p (at_degree degrees d g) g ts
+      (AllByRecursion-weaken _ _ (λ t k. ap (λ b. (if b then g t else 0) % p) ((Decides-int_eq d (term_degree degrees t)).1 k.1)) ts h)
+
+nothing : (b : Bool) (n : ℕ) → n ≡ 0 → (if b then n else 0) ≡ 0
+nothing true n none = none
+nothing false n none = refl
+
+module _ (target : List ℤ) (d : ℤ) (p : ℕ) (rows : List Vector) (homogeneous : HasHomogeneousRows target rows) where
+  -- the products of a coefficient with the terms of its row have the coefficient's degree
+  term_degree-share : (t u : Term Place) → generator_degree (degrees_of rows) t.at.position ≡ term_degree target u
+      → term_degree target (term_product place_product p (factor (λ k. k.monomial) t) u) ≡ term_degree (degrees_of rows) t
+  term_degree-share t u e = term_degree-term_product target p (factor (λ k. k.monomial) t) u ∙ ap (λ z. z +ℤ pos (exponent_sum t.at.monomial)) (sym e)
+
+  -- so the share of a coefficient counts in full or not at all
+  share-at_degree : (g : Term Place → ℕ) (t : Term Place)
+      → share place_product p (λ k. k.monomial) (λ k. row_at rows k.position) (at_degree target d g) t
+      ≡ (if int_eq d (term_degree (degrees_of rows) t) then share place_product p (λ k. k.monomial) (λ k. row_at rows k.position) g t else 0)
+  share-at_degree g t =
+      total-each p _ (λ u. if int_eq d (term_degree (degrees_of rows) t) then g (term_product place_product p (factor (λ k. k.monomial) t) u) else 0) (row_at rows t.at.position)
+      (AllByRecursion-weaken _ _ (λ u h. ap (λ z. (if int_eq d z then g (term_product place_product p (factor (λ k. k.monomial) t) u) else 0) % p) (term_degree-share t u h.1))
+      (row_at rows t.at.position) (IsHomogeneous-row_at target rows homogeneous t.at.position))
+      ∙ chosen (int_eq d (term_degree (degrees_of rows) t))
+    where
+      chosen : (b : Bool) → total p (λ u. if b then g (term_product place_product p (factor (λ k. k.monomial) t) u) else 0) (row_at rows t.at.position)
+          ≡ (if b then share place_product p (λ k. k.monomial) (λ k. row_at rows k.position) g t else 0)
+      chosen true = refl
+      chosen false = total-zero p (λ _. 0) (row_at rows t.at.position) (λ u. zero-mod p)
+
+  -- a coefficient past the rows has no share
+  share-within : (g : Term Place → ℕ) (t : Term Place)
+      → (if has_degree (degrees_of rows) d t then share place_product p (λ k. k.monomial) (λ k. row_at rows k.position) g t else 0)
+      ≡ (if int_eq d (term_degree (degrees_of rows) t) then share place_product p (λ k. k.monomial) (λ k. row_at rows k.position) g t else 0)
+  share-within g t = elim (cases_lt t.at.position (length (degrees_of rows))) [
+    | inl within ↦ let e : nat_lt t.at.position (length (degrees_of rows)) ≡ true = grind (arith, nat_tests) in
+        ap (λ b. if b && int_eq d (term_degree (degrees_of rows) t) then share place_product p (λ k. k.monomial) (λ k. row_at rows k.position) g t else 0) e
+    | inr past ↦
+        let none : share place_product p (λ k. k.monomial) (λ k. row_at rows k.position) g t ≡ 0 =
+        ap (total p (λ u. g (term_product place_product p (factor (λ k. k.monomial) t) u))) (row_at-past rows t.at.position (simp length-map at past))
+        ∙ total-nil p _ in
+        nothing (has_degree (degrees_of rows) d t) _ none ∙ sym (nothing (int_eq d (term_degree (degrees_of rows) t)) _ none)
+  ]
+
+  -- the combination with the coefficients of its degree
+  pub row_combination-degree_part : 0 < p → (c : List (Term Place)) → IsHomogeneous target d (row_combination p rows c)
+      → row_combination p rows (degree_part (degrees_of rows) d c) ≡ row_combination p rows c
+  row_combination-degree_part positive c h =
+      combination-same place_keys p positive (λ k. k.monomial) (λ k. row_at rows k.position) (degree_part (degrees_of rows) d c) (row_combination p rows c) (IsCanonical-row_combination p positive rows c)
+      (λ g additive.
+      total-filter (has_degree (degrees_of rows) d) p (share place_product p (λ k. k.monomial) (λ k. row_at rows k.position) g) c
+      ∙ total-same p _ _ c (λ t. ap (λ n. n % p) (share-within g t ∙ sym (share-at_degree g t)))
+      ∙ sym (total-combination place_keys p (λ k. k.monomial) (λ k. row_at rows k.position) (at_degree target d g) (at_degree-additive target d p g additive) c)
+      ∙ total-at_degree target d p g (row_combination p rows c) h)

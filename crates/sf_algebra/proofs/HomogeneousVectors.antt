@@ -1,0 +1,79 @@
+-- Sums, negatives, multiples and combinations of homogeneous vectors are homogeneous vectors.
+use Rattle.std.proofs.Common.{◌≡◌, ℕ, ◌<◌, List, [], length, subst, sym, ◌∙◌, arith, ℤ, pos, ◌+ℤ◌}
+use Rattle.std.proofs.lemmas.Int.{ints}
+use Rattle.sf_algebra.specs.DegreeParts.{degree_part}
+use Rattle.sf_algebra.specs.Matrices.{Matrix, IsMatrix, row_degrees}
+use Rattle.sf_algebra.specs.MatrixOperations.{row_combination, identity, unit_vector}
+use Rattle.sf_algebra.specs.Monomials.{Monomial, exponent_sum}
+use Rattle.sf_algebra.specs.Multiples.{place_product, multiple, negative}
+use Rattle.sf_algebra.specs.Sums.{add}
+use Rattle.sf_algebra.specs.Terms.{Term}
+use Rattle.sf_algebra.specs.Vectors.{Place, Vector, place_cmp, generator_degree, IsHomogeneous, IsVector}
+use Rattle.sf_algebra.proofs.Degrees.{HasHomogeneousRows, IsHomogeneous-add, IsHomogeneous-multiple, IsHomogeneous-negative, IsHomogeneous-row_combination}
+use Rattle.sf_algebra.proofs.DegreeParts.{IsHomogeneous-degree_part, row_combination-degree_part}
+use Rattle.sf_algebra.proofs.Filters.{IsCanonical-filter}
+use Rattle.sf_algebra.proofs.Keys.{place_keys}
+use Rattle.sf_algebra.proofs.Lists.{AllByRecursion-weaken}
+use Rattle.sf_algebra.proofs.Multiples.{IsCanonical-multiple}
+use Rattle.sf_algebra.proofs.Negatives.{IsCanonical-negative}
+use Rattle.sf_algebra.proofs.Normal.{IsCanonical-add}
+use Rattle.sf_algebra.proofs.Orders.{place_cmp_linear}
+use Rattle.sf_algebra.proofs.RowParts.{HasCanonicalRows}
+use Rattle.sf_algebra.proofs.Rows.{IsCanonical-row_combination}
+use Rattle.sf_algebra.proofs.UnitRows.{row_combination-unit_rows}
+
+module _ (p : ℕ) (degrees : List ℤ) where
+  pub IsVector-add : 0 < p → (d : ℤ) (us vs : List (Term Place)) → IsVector p degrees (record { degree = d; terms = us }) → IsVector p degrees (record { degree = d; terms = vs })
+      → IsVector p degrees (record { degree = d; terms = add place_cmp p us vs })
+  IsVector-add positive d us vs h k = record {
+    canonical = IsCanonical-add place_cmp place_cmp_linear p positive us vs;
+    homogeneous = IsHomogeneous-add degrees p d us vs h.homogeneous k.homogeneous;
+  }
+
+  pub IsVector-nil : (d : ℤ) → IsVector p degrees (record { degree = d; terms = [] })
+  IsVector-nil d = record { canonical = record { descending = tt; residues = tt }; homogeneous = tt }
+
+  pub IsVector-negative : (d : ℤ) (us : List (Term Place)) → IsVector p degrees (record { degree = d; terms = us }) → IsVector p degrees (record { degree = d; terms = negative p us })
+  IsVector-negative d us h = record { canonical = IsCanonical-negative place_cmp p us h.canonical; homogeneous = IsHomogeneous-negative degrees p d us h.homogeneous }
+
+  pub IsVector-multiple : 0 < p → (d : ℤ) (s : Term Monomial) (us : List (Term Place)) → IsVector p degrees (record { degree = d; terms = us })
+      → IsVector p degrees (record { degree = d +ℤ pos (exponent_sum s.at); terms = multiple place_cmp place_product p s us })
+  IsVector-multiple positive d s us h = record {
+    canonical = IsCanonical-multiple place_keys p positive s us;
+    homogeneous = IsHomogeneous-multiple degrees p d s us h.homogeneous;
+  }
+
+  pub IsVector-unit_vector : 1 < p → (i : ℕ) → i < length degrees → IsVector p degrees (unit_vector (generator_degree degrees i) i)
+  IsVector-unit_vector above i within = record {
+    canonical = record { descending = (tt, tt); residues = ((omega arith, above), tt) };
+    homogeneous = ((within, omega (arith, ints)), tt);
+  }
+
+  pub IsVector-degree_part : (d : ℤ) (v : Vector) → IsVector p degrees v → IsVector p degrees (record { degree = d; terms = degree_part degrees d v.terms })
+  IsVector-degree_part d v h = record { canonical = IsCanonical-filter _ place_cmp p v.terms h.canonical; homogeneous = IsHomogeneous-degree_part degrees d v.terms }
+
+-- a vector times the identity
+pub row_combination-identity : (p : ℕ) → 0 < p → (degrees : List ℤ) (v : Vector) → IsVector p degrees v → row_combination p (identity p degrees).rows v.terms ≡ v.terms
+row_combination-identity p positive degrees v h =
+    row_combination-unit_rows p positive degrees v.terms h.canonical (AllByRecursion-weaken _ _ (λ t k. k.0) v.terms h.homogeneous)
+
+-- the rows of a matrix are homogeneous and canonical
+pub HasHomogeneousRows-from_IsMatrix : (m : Matrix) → IsMatrix m → HasHomogeneousRows m.target m.rows
+HasHomogeneousRows-from_IsMatrix m h = AllByRecursion-weaken _ _ (λ v k. k.homogeneous) m.rows h
+
+pub HasCanonicalRows-from_IsMatrix : (m : Matrix) → IsMatrix m → HasCanonicalRows m.modulus m.rows
+HasCanonicalRows-from_IsMatrix m h = AllByRecursion-weaken _ _ (λ v k. k.canonical) m.rows h
+
+module _ (m : Matrix) (positive : 0 < m.modulus) (is_matrix : IsMatrix m) where
+  -- a vector times a matrix
+  pub IsVector-row_combination : (c : Vector) → IsVector m.modulus (row_degrees m) c → IsVector m.modulus m.target (record { degree = c.degree; terms = row_combination m.modulus m.rows c.terms })
+  IsVector-row_combination c h = record {
+    canonical = IsCanonical-row_combination m.modulus positive m.rows c.terms;
+    homogeneous = IsHomogeneous-row_combination m.target m.modulus m.rows (HasHomogeneousRows-from_IsMatrix m is_matrix) c.degree c.terms h.homogeneous;
+  }
+
+  -- a vector that is a combination of the rows is one with coefficients of its degree
+  pub row_combination-IsVector : (v : Vector) → IsVector m.modulus m.target v → (c : List (Term Place)) → row_combination m.modulus m.rows c ≡ v.terms
+      → row_combination m.modulus m.rows (degree_part (row_degrees m) v.degree c) ≡ v.terms
+  row_combination-IsVector v h c e =
+      row_combination-degree_part m.target v.degree m.modulus m.rows (HasHomogeneousRows-from_IsMatrix m is_matrix) positive c (subst (IsHomogeneous m.target v.degree) (sym e) h.homogeneous) ∙ e

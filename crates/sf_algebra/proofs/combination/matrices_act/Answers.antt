@@ -1,0 +1,28 @@
+use Rattle.std.proofs.Common.{refl, sym}
+use Rattle.sf_algebra.specs.MatrixOperations.{row_at}
+use Rattle.sf_algebra.proofs.Combinations.{coefficient_at-combination}
+use Rattle.sf_algebra.proofs.EntryProducts.{entry-row_combination_products}
+use Rattle.sf_algebra.proofs.HomogeneousVectors.{HasCanonicalRows-from_IsMatrix}
+use Rattle.sf_algebra.proofs.Keys.{place_keys}
+use Rattle.sf_algebra.proofs.RowParts.{row_combination-negated}
+use Rattle.sf_algebra.proofs.Rows.{IsCanonical-row_combination, row_combination-one, row_combination-add, row_combination-add_rows, row_combination-multiple, row_combination-negative, row_combination-matrix_product}
+use Rattle.sf_algebra.proofs.StackedRows.{row_combination-stacked}
+use Rattle.sf_algebra.proofs.UnitRows.{row_combination-unit, row_combination-unit_rows}
+use Rattle.sf_algebra.proofs.combination.matrices_act.Goals as goal
+
+pub returns : goal.returns
+returns c = record {
+  canonical = IsCanonical-row_combination;
+  product_coefficients = λ p rows c k. coefficient_at-combination place_keys p (λ l. l.monomial) (λ l. row_at rows l.position) k c;
+  entries = entry-row_combination_products;
+  one_coefficient = row_combination-one;
+  coefficients = row_combination-add;
+  rows = row_combination-add_rows;
+  multiples = row_combination-multiple;
+  negatives = row_combination-negative;
+  negated_rows = λ m positive is_matrix. row_combination-negated m positive (HasCanonicalRows-from_IsMatrix m is_matrix);
+  products = λ m n positive d. sym (row_combination-matrix_product m.modulus positive m n d refl);
+  unit_coefficients = λ p positive rows d. row_combination-unit p positive rows;
+  unit_rows = row_combination-unit_rows;
+  stacked_rows = row_combination-stacked;
+}

@@ -1,0 +1,12 @@
+use Rattle.sf_algebra.proofs.HomogeneousVectors.{IsVector-add, IsVector-negative, IsVector-multiple, IsVector-row_combination, IsVector-degree_part, row_combination-IsVector}
+use Rattle.sf_algebra.proofs.vector.vectors_are_graded.Goals as goal
+
+pub returns : goal.returns
+returns c = record {
+  sums = λ p positive degrees. IsVector-add p degrees positive;
+  negatives = IsVector-negative;
+  multiples = λ p positive degrees. IsVector-multiple p degrees positive;
+  combinations = IsVector-row_combination;
+  coefficients = row_combination-IsVector;
+  parts = IsVector-degree_part;
+}
