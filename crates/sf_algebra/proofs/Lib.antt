@@ -23,6 +23,9 @@ pub mod ProductLaws
 pub mod EntryTotals
 pub mod EntryProducts
 pub mod TransposedProducts
+pub mod Ranges
+pub mod PartTerms
+pub mod Parts
 pub mod Residues
 pub mod Primes
 pub mod Inverses
