@@ -1,22 +1,12 @@
 -- The identity: its rows are the unit vectors.
-use Rattle.std.proofs.Common.{◌≡◌, refl, ℕ, suc, ◌+◌, ◌<◌, List, [], ◌∷◌, ◌++◌, map, length, ℤ, pos, ◌+ℤ◌, sym, ap, ◌∙◌, subst, arith, append_assoc}
+use Rattle.std.proofs.Common.{◌≡◌, refl, ℕ, suc, ◌+◌, ◌<◌, List, [], ◌∷◌, ◌++◌, map, length, ℤ, pos, sym, ap, subst, arith, append_assoc}
 use Rattle.std.specs.List.{AllByRecursion}
 use Rattle.std.proofs.lemmas.List.{get_or_at}
-use Rattle.std.proofs.lemmas.Int.{ints}
 use Rattle.std.proofs.Math.ListN.{length-append}
 use Rattle.sf_algebra.specs.Matrices.{row_degrees, IsMatrix}
 use Rattle.sf_algebra.specs.MatrixOperations.{unit_vector, unit_rows, identity}
-use Rattle.sf_algebra.specs.Vectors.{Vector, generator_degree, IsVector}
-
--- a unit vector of a generator's degree at its position
-pub IsVector-unit_vector : (p : ℕ) (degrees : List ℤ) (d : ℤ) (i : ℕ) → 1 < p → i < length degrees → generator_degree degrees i ≡ d → IsVector p degrees (unit_vector d i)
-IsVector-unit_vector p degrees d i above inside same = record {
-  canonical = record { descending = (tt, tt); residues = ((omega arith, above), tt) };
-  homogeneous = ((inside, sum ∙ ap (λ e. e +ℤ pos 0) (sym same)), tt);
-}
-  where
-    sum : d ≡ d +ℤ pos 0
-    sum = omega (arith, ints)
+use Rattle.sf_algebra.proofs.HomogeneousVectors.{IsVector-unit_vector}
+use Rattle.sf_algebra.specs.Vectors.{Vector, IsVector}
 
 -- the degrees of the unit vectors
 pub degrees-unit_rows : (i : ℕ) (ds : List ℤ) → map (λ (v : Vector). v.degree) (unit_rows i ds) ≡ ds
@@ -37,9 +27,10 @@ module _ (p : ℕ) (above : 1 < p) where
   IsVector-unit_rows front [] i e = tt
   IsVector-unit_rows front (d ∷ ds) i e =
       let inside : i < length (front ++ d ∷ ds) = rw length-append (omega arith) in
-      let size : suc i ≡ length (front ++ d ∷ []) = rw length-append (omega arith) in
-      (IsVector-unit_vector p (front ++ d ∷ ds) d i above inside (get_or_at front d ds (pos 0) i (sym e)),
-      subst (λ all. AllByRecursion (IsVector p all) (unit_rows (suc i) ds)) (append_assoc front (d ∷ []) ds) (IsVector-unit_rows (front ++ d ∷ []) ds (suc i) size))
+      let size : suc i ≡ length (front ++ d ∷ []) = rw length-append (omega arith) in (
+        subst (λ c. IsVector p (front ++ d ∷ ds) (unit_vector c i)) (get_or_at front d ds (pos 0) i (sym e)) (IsVector-unit_vector p (front ++ d ∷ ds) above i inside),
+        subst (λ all. AllByRecursion (IsVector p all) (unit_rows (suc i) ds)) (append_assoc front (d ∷ []) ds) (IsVector-unit_rows (front ++ d ∷ []) ds (suc i) size),
+      )
 
   pub IsMatrix-identity : (ds : List ℤ) → IsMatrix (identity p ds)
   IsMatrix-identity ds = IsVector-unit_rows [] ds 0 refl

@@ -46,7 +46,7 @@ module _ (from to : ℕ) (t : Term Place) (ts : List (Term Place)) where
 
   pub part_terms-outside : (t.at.position < from) ⊎ (to ≤ t.at.position) → part_terms from to (t ∷ ts) ≡ part_terms from to ts
   part_terms-outside outside =
-      let no : (nat_le from t.at.position && nat_lt t.at.position to) ≡ false = elim outside [ | inl before ↦ grind (arith, nat_tests) | inr past ↦ grind (arith, nat_tests) ] in
+      let no : (nat_le from t.at.position && nat_lt t.at.position to) ≡ false = elim outside [ inl before ↦ grind (arith, nat_tests) | inr past ↦ grind (arith, nat_tests) ] in
       ap (λ b. map (moved_back from) (cond b (t ∷ between from to ts) (between from to ts))) no
 
 pub part_terms-append : (from to : ℕ) (ts us : List (Term Place)) → part_terms from to (ts ++ us) ≡ part_terms from to ts ++ part_terms from to us
@@ -87,7 +87,7 @@ entry-part_terms from to j (t ∷ ts) h =
       | inr outside ↦
           ap (entry j) (part_terms-outside from to t ts outside)
           ∙ others
-          ∙ sym (entry-elsewhere (from + j) t ts (λ e. elim outside [ | inl before ↦ omega arith | inr past ↦ omega arith ]))
+          ∙ sym (entry-elsewhere (from + j) t ts (λ e. elim outside [ inl before ↦ omega arith | inr past ↦ omega arith ]))
     ]
 
 -- past the range there is nothing
@@ -109,11 +109,12 @@ IsDescending-part_terms from to [] h = tt
 IsDescending-part_terms from to (t ∷ ts) h =
     let others = IsDescending-part_terms from to ts h.1 in
     elim (cases_between from to t.at.position) [
-      | inl inside ↦ subst (IsDescending place_cmp) (sym (part_terms-inside from to t ts inside.0 inside.1))
-      (AllByRecursion-part_terms (λ u. place_cmp u.at t.at ≡ Less) (λ u. place_cmp u.at (moved_back from t).at ≡ Less) from to
-      (λ u reached within less. ap (λ o. ordering_then o (monomial_cmp u.at.monomial t.at.monomial)) (nat_cmp-sub from t.at.position u.at.position inside.0 reached) ∙ less)
-      ts h.0,
-      others)
+      | inl inside ↦ subst (IsDescending place_cmp) (sym (part_terms-inside from to t ts inside.0 inside.1)) (
+        AllByRecursion-part_terms (λ u. place_cmp u.at t.at ≡ Less) (λ u. place_cmp u.at (moved_back from t).at ≡ Less) from to
+            (λ u reached within less. ap (λ o. ordering_then o (monomial_cmp u.at.monomial t.at.monomial)) (nat_cmp-sub from t.at.position u.at.position inside.0 reached) ∙ less)
+            ts h.0,
+        others,
+      )
       | inr outside ↦ subst (IsDescending place_cmp) (sym (part_terms-outside from to t ts outside)) others
     ]
 
@@ -140,6 +141,7 @@ IsVector-part_terms p degrees from to v h = record {
   where
     moves : (t : Term Place) → from ≤ t.at.position → t.at.position < to → IsTermOfDegree degrees v.degree t → IsTermOfDegree (slice_range degrees from to) v.degree (moved_back from t)
     moves t reached within k =
-        let inside : t.at.position < length degrees = k.0 in
-        (rw (length-take, length-drop) (omega arith),
-        k.1 ∙ ap (λ d. d +ℤ pos (exponent_sum t.at.monomial)) (sym (generator_degree-slice_range degrees from to t.at.position reached within)))
+        let inside : t.at.position < length degrees = k.0 in (
+          rw (length-take, length-drop) (omega arith),
+          k.1 ∙ ap (λ d. d +ℤ pos (exponent_sum t.at.monomial)) (sym (generator_degree-slice_range degrees from to t.at.position reached within)),
+        )

@@ -36,10 +36,10 @@ pub entry-unit_rows_exchange : (ds es : List ℤ) (i j : ℕ) → length ds ≡ 
 entry-unit_rows_exchange ds es i j size =
     elim (cases_eq i j) [
       | inl same ↦ subst (λ k. entry k (row_at (unit_rows 0 ds) i) ≡ entry i (row_at (unit_rows 0 es) k)) same
-      (elim (cases_lt i (length ds)) [
-        | inl inside ↦ entry-unit_rows ds i inside ∙ sym (entry-unit_rows es i (omega arith))
-        | inr past ↦ entry-unit_rows_past ds i i past ∙ sym (entry-unit_rows_past es i i (omega arith))
-      ])
+          (elim (cases_lt i (length ds)) [
+            | inl inside ↦ entry-unit_rows ds i inside ∙ sym (entry-unit_rows es i (omega arith))
+            | inr past ↦ entry-unit_rows_past ds i i past ∙ sym (entry-unit_rows_past es i i (omega arith))
+          ])
       | inr other ↦ entry-unit_rows_other ds i j other ∙ sym (entry-unit_rows_other es j i (λ e. other (sym e)))
     ]
 
