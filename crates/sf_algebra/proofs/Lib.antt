@@ -26,6 +26,8 @@ pub mod TransposedProducts
 pub mod Ranges
 pub mod PartTerms
 pub mod Parts
+pub mod ProductParts
+pub mod KroneckerTerms
 pub mod Residues
 pub mod Primes
 pub mod Inverses
