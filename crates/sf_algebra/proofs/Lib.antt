@@ -28,6 +28,8 @@ pub mod PartTerms
 pub mod Parts
 pub mod ProductParts
 pub mod KroneckerTerms
+pub mod KroneckerVectors
+pub mod Kronecker
 pub mod Residues
 pub mod Primes
 pub mod Inverses
