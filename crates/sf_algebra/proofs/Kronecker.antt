@@ -30,7 +30,7 @@ row_at-changed d f none (v ∷ vs) (suc i) = row_at-changed d f none vs i
 
 module _ (p n : ℕ) (positive : 0 < p) where
   -- the pair of row i of the first and row k of the second stands at the pair's number
-  row_at-kronecker_rows : (us vs : List Vector) (i k m : ℕ) → k < length vs → m ≡ i * length vs + k
+  pub row_at-kronecker_rows : (us vs : List Vector) (i k m : ℕ) → k < length vs → m ≡ i * length vs + k
       → row_at (flat_map (λ (u : Vector). kronecker_row p n u vs) us) m ≡ kronecker_terms p n (row_at us i) (row_at vs k)
   row_at-kronecker_rows [] vs i k m h e = sym (kronecker_terms-nil_first p n positive (row_at vs k))
   row_at-kronecker_rows (u ∷ us) vs zero k m h e =

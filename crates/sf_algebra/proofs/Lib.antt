@@ -30,6 +30,7 @@ pub mod ProductParts
 pub mod KroneckerTerms
 pub mod KroneckerVectors
 pub mod Kronecker
+pub mod KroneckerProducts
 pub mod Residues
 pub mod Primes
 pub mod Inverses
