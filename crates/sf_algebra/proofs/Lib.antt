@@ -31,6 +31,7 @@ pub mod KroneckerTerms
 pub mod KroneckerVectors
 pub mod Kronecker
 pub mod KroneckerProducts
+pub mod KroneckerUnits
 pub mod Residues
 pub mod Primes
 pub mod Inverses
