@@ -17,10 +17,13 @@ pub length-unit_rows : (i : ℕ) (ds : List ℤ) → length (unit_rows i ds) ≡
 length-unit_rows i [] = refl
 length-unit_rows i (d ∷ ds) = ap suc (length-unit_rows (suc i) ds)
 
+pub unit_rows-append : (i : ℕ) (ds es : List ℤ) (n : ℕ) → n ≡ i + length ds → unit_rows i (ds ++ es) ≡ unit_rows i ds ++ unit_rows n es
+unit_rows-append i [] es n e = ap (λ m. unit_rows m es) (let same : i ≡ n = omega arith in same)
+unit_rows-append i (d ∷ ds) es n e = ap (λ vs. unit_vector d i ∷ vs) (unit_rows-append (suc i) ds es n (omega arith))
+
 -- one more unit vector
 pub unit_rows-push : (i : ℕ) (ds : List ℤ) (d : ℤ) (n : ℕ) → n ≡ i + length ds → unit_rows i (ds ++ d ∷ []) ≡ unit_rows i ds ++ unit_vector d n ∷ []
-unit_rows-push i [] d n e = ap (λ m. unit_vector d m ∷ []) (let same : i ≡ n = omega arith in same)
-unit_rows-push i (c ∷ ds) d n e = ap (λ vs. unit_vector c i ∷ vs) (unit_rows-push (suc i) ds d n (omega arith))
+unit_rows-push i ds d n e = unit_rows-append i ds (d ∷ []) n e
 
 module _ (p : ℕ) (above : 1 < p) where
   IsVector-unit_rows : (front ds : List ℤ) (i : ℕ) → i ≡ length front → AllByRecursion (IsVector p (front ++ ds)) (unit_rows i ds)

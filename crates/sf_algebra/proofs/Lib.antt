@@ -32,6 +32,8 @@ pub mod KroneckerVectors
 pub mod Kronecker
 pub mod KroneckerProducts
 pub mod KroneckerUnits
+pub mod KroneckerIdentities
+pub mod KroneckerEntries
 pub mod Residues
 pub mod Primes
 pub mod Inverses
