@@ -34,6 +34,7 @@ pub mod KroneckerProducts
 pub mod KroneckerUnits
 pub mod KroneckerIdentities
 pub mod KroneckerEntries
+pub mod KroneckerTransposes
 pub mod Residues
 pub mod Primes
 pub mod Inverses
