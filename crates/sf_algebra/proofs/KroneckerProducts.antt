@@ -3,6 +3,7 @@ use Rattle.std.proofs.Common.{◌≡◌, refl, ℕ, ◌+◌, ◌*◌, ◌<◌, L
 use Rattle.std.specs.List.{AllByRecursion, flat_map}
 use Rattle.std.proofs.lemmas.List.{length-map, map-append}
 use Rattle.sf_algebra.specs.Matrices.{Matrix, IsMatrix}
+use Rattle.sf_algebra.specs.MatrixProductLaws.{IsComposable}
 use Rattle.sf_algebra.specs.MatrixOperations.{row_at, row_combination, matrix_product, moved, kronecker_terms, degree_sums, kronecker}
 use Rattle.sf_algebra.specs.Multiples.{place_product, combination}
 use Rattle.sf_algebra.specs.Terms.{Term}
@@ -15,7 +16,6 @@ use Rattle.sf_algebra.proofs.Keys.{place_keys}
 use Rattle.sf_algebra.proofs.Kronecker.{kronecker_row, row_at-kronecker_rows}
 use Rattle.sf_algebra.proofs.KroneckerTerms.{kronecker_terms-combination, kronecker_terms-combination_first, moved_term}
 use Rattle.sf_algebra.proofs.Lists.{AllByRecursion-weaken}
-use Rattle.sf_algebra.proofs.MatrixProducts.{IsComposable}
 use Rattle.sf_algebra.proofs.MatrixRows.{IsWithin, with_terms}
 use Rattle.sf_algebra.proofs.Rows.{position_rows}
 

@@ -1,8 +1,9 @@
 -- The product of matrices is a matrix.
-use Rattle.std.proofs.Common.{◌≡◌, ◌<◌, sym, subst}
+use Rattle.std.proofs.Common.{◌≡◌, sym, subst}
 use Rattle.std.specs.List.{AllByRecursion}
 use Rattle.sf_algebra.specs.Matrices.{Matrix, row_degrees, IsMatrix}
 use Rattle.sf_algebra.specs.MatrixOperations.{row_combination, matrix_product}
+use Rattle.sf_algebra.specs.MatrixProductLaws.{IsComposable}
 use Rattle.sf_algebra.specs.Vectors.{Vector, IsVector}
 use Rattle.sf_algebra.proofs.HomogeneousVectors.{IsVector-row_combination}
 use Rattle.sf_algebra.proofs.Lists.{AllByRecursion-weaken}
@@ -10,12 +11,6 @@ use Rattle.sf_algebra.proofs.Stacks.{AllByRecursion-map, degrees-with_terms}
 
 pub row_degrees-matrix_product : (a b : Matrix) → row_degrees (matrix_product a b) ≡ row_degrees a
 row_degrees-matrix_product a b = degrees-with_terms (row_combination a.modulus b.rows) a.rows
-
--- the modulus and the degrees of matrices that can be multiplied
-pub record IsComposable (a b : Matrix) : Type 0 where
-  pub positive : 0 < a.modulus
-  pub moduli : a.modulus ≡ b.modulus
-  pub degrees : row_degrees b ≡ a.target
 
 pub IsMatrix-matrix_product : (a b : Matrix) → IsComposable a b → IsMatrix a → IsMatrix b → IsMatrix (matrix_product a b)
 IsMatrix-matrix_product a b c h k =

@@ -3,12 +3,13 @@ use Rattle.std.proofs.Common.{◌≡◌, ◌≢◌, refl, ℕ, ◌+◌, ◌<◌,
 use Rattle.std.proofs.lemmas.Bool.{cases_eq, cases_lt}
 use Rattle.std.proofs.lemmas.List.{length-map}
 use Rattle.sf_algebra.specs.Matrices.{Matrix, IsMatrix}
+use Rattle.sf_algebra.specs.MatrixProductLaws.{IsComposable}
 use Rattle.sf_algebra.specs.MatrixOperations.{row_at, unit_rows, identity, matrix_product, transposed}
 use Rattle.sf_algebra.specs.Vectors.{entry}
 use Rattle.sf_algebra.proofs.Entries.{entry-here, entry-elsewhere}
 use Rattle.sf_algebra.proofs.EntryTotals.{inner_product, inner_product-comm, entry-row_combination}
 use Rattle.sf_algebra.proofs.Identities.{IsMatrix-identity, row_degrees-identity, length-unit_rows}
-use Rattle.sf_algebra.proofs.MatrixProducts.{IsComposable, IsMatrix-matrix_product, row_degrees-matrix_product}
+use Rattle.sf_algebra.proofs.MatrixProducts.{IsMatrix-matrix_product, row_degrees-matrix_product}
 use Rattle.sf_algebra.proofs.MultipleLaws.{one_term}
 use Rattle.sf_algebra.proofs.MatrixRows.{same_matrices}
 use Rattle.sf_algebra.proofs.Rows.{row_at-past, row_at-matrix_product}

@@ -1,12 +1,10 @@
 -- What holds of the product of graded matrices: they are the arrows of a category, whose objects are free modules.
 -- (Any textbook of linear algebra.)
 use Rattle.std.specs.Prelude.{◌≡◌, ℕ, ◌<◌, List, ℤ}
+use Rattle.sf_algebra.specs.CombinationLaws.{entry_products}
 use Rattle.sf_algebra.specs.Matrices.{Matrix, row_degrees, IsMatrix}
-use Rattle.sf_algebra.specs.MatrixOperations.{row_at, identity, matrix_product, column_terms}
-use Rattle.sf_algebra.specs.Monomials.{Monomial, product, monomial_cmp}
-use Rattle.sf_algebra.specs.Multiples.{combination}
-use Rattle.sf_algebra.specs.Terms.{Term}
-use Rattle.sf_algebra.specs.Vectors.{Place, entry}
+use Rattle.sf_algebra.specs.MatrixOperations.{row_at, identity, matrix_product}
+use Rattle.sf_algebra.specs.Vectors.{entry}
 
 -- the modulus is one and positive, and the rows of b stand for the columns of a
 pub record IsComposable (a b : Matrix) : Type 0 where
@@ -14,19 +12,14 @@ pub record IsComposable (a b : Matrix) : Type 0 where
   pub moduli : a.modulus ≡ b.modulus
   pub degrees : row_degrees b ≡ a.target
 
--- the product of two vectors: the sum of the products of their entries
-abbrev pub inner_product : ℕ → List (Term Place) → List (Term Place) → List (Term Monomial)
-inner_product p c d = combination monomial_cmp product p (λ k. k.monomial) (λ k. entry k.position d) c
-
 -- a product is a matrix, whose rows have the degrees of the first factor's
 abbrev pub HasMatrixProducts : Type 0
 HasMatrixProducts = (a b : Matrix) → IsComposable a b → IsMatrix a → IsMatrix b → IsMatrix (matrix_product a b) × (row_degrees (matrix_product a b) ≡ row_degrees a)
 
--- an entry of a product is the product of a row of the first factor and a column of the second
+-- the entry at (i, j) is the sum, over k, of the products of the first factor's at (i, k) and the second's at (k, j)
 abbrev pub MultipliesRowsByColumns : Type 0
 MultipliesRowsByColumns =
-    (a b : Matrix) → 0 < a.modulus → (i j : ℕ)
-    → entry j (row_at (matrix_product a b).rows i) ≡ inner_product a.modulus (row_at a.rows i) (column_terms j 0 b.rows)
+    (a b : Matrix) → 0 < a.modulus → (i j : ℕ) → entry j (row_at (matrix_product a b).rows i) ≡ entry_products a.modulus j (row_at a.rows i) 0 b.rows
 
 -- an identity is a matrix from a free module to itself
 abbrev pub HasMatrixIdentities : Type 0
