@@ -4,7 +4,7 @@ use Rattle.std.specs.declared.cmp.Ordering.{Ordering}
 use Rattle.sf_algebra.specs.Orders.{IsLinearOrder}
 use Rattle.sf_algebra.specs.Terms.{Term, IsCanonical, IsNonzeroResidue, IsAboveFirst}
 use Rattle.sf_algebra.proofs.Coefficients.{IsCanonical-tail}
-use Rattle.sf_algebra.proofs.Normal.{IsAboveEach, IsAboveEach-trans}
+use Rattle.sf_algebra.proofs.Normal.{IsAboveEach-trans}
 
 -- a term before a canonical list, by the first term of that list
 pub IsCanonical-cons : {K : Type 0} (cmp : K → K → Ordering) (order : IsLinearOrder cmp) (p : ℕ) (t : Term K) (ts : List (Term K)) → IsNonzeroResidue p t → IsAboveFirst cmp t.at ts → IsCanonical cmp p ts → IsCanonical cmp p (t ∷ ts)

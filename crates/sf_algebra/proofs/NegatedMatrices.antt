@@ -1,23 +1,19 @@
 -- The negative of a matrix.
-use Rattle.std.proofs.Common.{◌≡◌, refl, ℕ, ◌<◌, List, [], ◌∷◌, map, length, ℤ, pos, ◌+ℤ◌, neg_ℤ, sym, ap, ◌∙◌, inl, inr}
+use Rattle.std.proofs.Common.{◌≡◌, refl, ℕ, List, [], ◌∷◌, map, neg_ℤ, sym, ap, ◌∙◌, inl, inr}
 use Rattle.std.proofs.lemmas.Bool.{cases_eq}
 use Rattle.sf_algebra.specs.Matrices.{Matrix, row_degrees, IsMatrix}
 use Rattle.sf_algebra.specs.MatrixOperations.{row_at, negated, transposed}
-use Rattle.sf_algebra.specs.Monomials.{exponent_sum}
 use Rattle.sf_algebra.specs.Multiples.{negative_term, negative}
 use Rattle.sf_algebra.specs.Terms.{Term}
-use Rattle.sf_algebra.specs.Vectors.{Place, Vector, place_cmp, entry, generator_degree, IsVector}
+use Rattle.sf_algebra.specs.Vectors.{Place, Vector, place_cmp, entry, IsVector}
 use Rattle.sf_algebra.proofs.Entries.{without_position, entry-here, entry-elsewhere}
+use Rattle.sf_algebra.proofs.HomogeneousVectors.{IsVector-negative}
 use Rattle.sf_algebra.proofs.Lists.{AllByRecursion-weaken}
-use Rattle.sf_algebra.proofs.Negatives.{EachPlace-negative, IsCanonical-negative, negative-negative}
+use Rattle.sf_algebra.proofs.Negatives.{negative-negative}
 use Rattle.sf_algebra.proofs.MatrixRows.{same_matrices}
 use Rattle.sf_algebra.proofs.RowParts.{row_at-negated}
 use Rattle.sf_algebra.proofs.Stacks.{AllByRecursion-map, degrees-with_terms, with_terms-with_terms, with_terms-same}
 use Rattle.sf_algebra.proofs.Transposes.{IsMatrix-transposed, entry-transposed, row_degrees-transposed}
-
--- a place at one of the generators, at which a term has degree d
-abbrev pub IsPlaceOfDegree : List ℤ → ℤ → Place → Type 0
-IsPlaceOfDegree degrees d k = (k.position < length degrees) × (d ≡ generator_degree degrees k.position +ℤ pos (exponent_sum k.monomial))
 
 pub entry-negative : (p j : ℕ) (ts : List (Term Place)) → entry j (negative p ts) ≡ negative p (entry j ts)
 entry-negative p j [] = refl
@@ -33,16 +29,10 @@ entry-negative p j (t ∷ ts) =
           ∙ ap (negative p) (sym (entry-elsewhere j t ts elsewhere))
     ]
 
-pub IsVector-negative : (p : ℕ) (degrees : List ℤ) (v : Vector) → IsVector p degrees v → IsVector p degrees (record { degree = v.degree; terms = negative p v.terms })
-IsVector-negative p degrees v h = record {
-  canonical = IsCanonical-negative place_cmp p v.terms h.canonical;
-  homogeneous = EachPlace-negative (IsPlaceOfDegree degrees v.degree) p v.terms h.homogeneous;
-}
-
 pub IsMatrix-negated : (m : Matrix) → IsMatrix m → IsMatrix (negated m)
 IsMatrix-negated m h =
     AllByRecursion-map (IsVector m.modulus m.target) (λ (v : Vector). record { degree = v.degree; terms = negative m.modulus v.terms }) m.rows
-    (AllByRecursion-weaken _ _ (IsVector-negative m.modulus m.target) m.rows h)
+    (AllByRecursion-weaken _ _ (λ v k. IsVector-negative m.modulus m.target v.degree v.terms k) m.rows h)
 
 pub row_degrees-negated : (m : Matrix) → row_degrees (negated m) ≡ row_degrees m
 row_degrees-negated m = degrees-with_terms (negative m.modulus) m.rows

@@ -73,10 +73,11 @@ IsDescending-entry j (t ∷ ts) h =
 
 pub IsDescending-at_position : (i : ℕ) (es : List (Term Monomial)) → IsDescending monomial_cmp es → IsDescending place_cmp (at_position i es)
 IsDescending-at_position i [] h = tt
-IsDescending-at_position i (e ∷ es) h =
-    (AllByRecursion-at_position (λ u. place_cmp u.at (with_position i e).at ≡ Less) i es
-    (AllByRecursion-weaken _ _ (λ f less. place_cmp-position i f.at e.at ∙ less) es h.0),
-    IsDescending-at_position i es h.1)
+IsDescending-at_position i (e ∷ es) h = (
+  AllByRecursion-at_position (λ u. place_cmp u.at (with_position i e).at ≡ Less) i es
+      (AllByRecursion-weaken _ _ (λ f less. place_cmp-position i f.at e.at ∙ less) es h.0),
+  IsDescending-at_position i es h.1,
+)
 
 -- an entry of a canonical list is canonical
 pub IsCanonical-entry : (p j : ℕ) (ts : List (Term Place)) → IsCanonical place_cmp p ts → IsCanonical monomial_cmp p (entry j ts)
@@ -95,12 +96,13 @@ same_first t u ts us place same =
     let heads : without_position t ∷ entry t.at.position ts ≡ without_position u ∷ entry t.at.position us =
     sym (entry-here t.at.position t ts refl) ∙ same t.at.position ∙ entry-here t.at.position u us (sym place) in
     let head : without_position t ≡ without_position u = cc in
-    let rest : entry t.at.position ts ≡ entry t.at.position us = cc in
-    ((λ i. with_position (place i) (head i)),
-    (λ j. elim (cases_eq t.at.position j) [
-      | inl here ↦ subst (λ i. entry i ts ≡ entry i us) here rest
-      | inr elsewhere ↦ sym (entry-elsewhere j t ts elsewhere) ∙ same j ∙ entry-elsewhere j u us (λ e. elsewhere (place ∙ e))
-    ]))
+    let rest : entry t.at.position ts ≡ entry t.at.position us = cc in (
+      (λ i. with_position (place i) (head i)),
+      (λ j. elim (cases_eq t.at.position j) [
+        | inl here ↦ subst (λ i. entry i ts ≡ entry i us) here rest
+        | inr elsewhere ↦ sym (entry-elsewhere j t ts elsewhere) ∙ same j ∙ entry-elsewhere j u us (λ e. elsewhere (place ∙ e))
+      ]),
+    )
 
 -- descending lists with equal entries are equal
 pub same_from_entries : (ts us : List (Term Place)) → IsDescending place_cmp ts → IsDescending place_cmp us → ((i : ℕ) → entry i ts ≡ entry i us) → ts ≡ us

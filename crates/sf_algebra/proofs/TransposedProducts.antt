@@ -3,12 +3,13 @@ use Rattle.std.proofs.Common.{◌≡◌, ◌≢◌, refl, ℕ, ◌+◌, ◌<◌,
 use Rattle.std.proofs.lemmas.Bool.{cases_eq, cases_lt}
 use Rattle.std.proofs.lemmas.List.{length-map}
 use Rattle.sf_algebra.specs.Matrices.{Matrix, IsMatrix}
+use Rattle.sf_algebra.specs.MatrixProductLaws.{IsComposable}
 use Rattle.sf_algebra.specs.MatrixOperations.{row_at, unit_rows, identity, matrix_product, transposed}
 use Rattle.sf_algebra.specs.Vectors.{entry}
 use Rattle.sf_algebra.proofs.Entries.{entry-here, entry-elsewhere}
 use Rattle.sf_algebra.proofs.EntryTotals.{inner_product, inner_product-comm, entry-row_combination}
 use Rattle.sf_algebra.proofs.Identities.{IsMatrix-identity, row_degrees-identity, length-unit_rows}
-use Rattle.sf_algebra.proofs.MatrixProducts.{IsComposable, IsMatrix-matrix_product, row_degrees-matrix_product}
+use Rattle.sf_algebra.proofs.MatrixProducts.{IsMatrix-matrix_product, row_degrees-matrix_product}
 use Rattle.sf_algebra.proofs.MultipleLaws.{one_term}
 use Rattle.sf_algebra.proofs.MatrixRows.{same_matrices}
 use Rattle.sf_algebra.proofs.Rows.{row_at-past, row_at-matrix_product}
@@ -36,10 +37,10 @@ pub entry-unit_rows_exchange : (ds es : List ℤ) (i j : ℕ) → length ds ≡ 
 entry-unit_rows_exchange ds es i j size =
     elim (cases_eq i j) [
       | inl same ↦ subst (λ k. entry k (row_at (unit_rows 0 ds) i) ≡ entry i (row_at (unit_rows 0 es) k)) same
-      (elim (cases_lt i (length ds)) [
-        | inl inside ↦ entry-unit_rows ds i inside ∙ sym (entry-unit_rows es i (omega arith))
-        | inr past ↦ entry-unit_rows_past ds i i past ∙ sym (entry-unit_rows_past es i i (omega arith))
-      ])
+          (elim (cases_lt i (length ds)) [
+            | inl inside ↦ entry-unit_rows ds i inside ∙ sym (entry-unit_rows es i (omega arith))
+            | inr past ↦ entry-unit_rows_past ds i i past ∙ sym (entry-unit_rows_past es i i (omega arith))
+          ])
       | inr other ↦ entry-unit_rows_other ds i j other ∙ sym (entry-unit_rows_other es j i (λ e. other (sym e)))
     ]
 

@@ -43,9 +43,10 @@ module _ (p : ℕ) (rows : List Vector) where
       → AllByRecursion (IsVector p (map neg_ℤ (map (λ (v : Vector). v.degree) rows))) (column_rows rows j ds)
   IsVector-columns front [] j e h = tt
   IsVector-columns front (d ∷ ds) j e h =
-      let size : suc j ≡ length (front ++ d ∷ []) = rw length-append (omega arith) in
-      (IsVector-column j p (front ++ d ∷ ds) d rows (get_or_at front d ds (pos 0) j (sym e)) h,
-      IsVector-columns (front ++ d ∷ []) ds (suc j) size (subst (λ all. AllByRecursion (IsVector p all) rows) (sym (append_assoc front (d ∷ []) ds)) h))
+      let size : suc j ≡ length (front ++ d ∷ []) = rw length-append (omega arith) in (
+        IsVector-column j p (front ++ d ∷ ds) d rows (get_or_at front d ds (pos 0) j (sym e)) h,
+        IsVector-columns (front ++ d ∷ []) ds (suc j) size (subst (λ all. AllByRecursion (IsVector p all) rows) (sym (append_assoc front (d ∷ []) ds)) h),
+      )
 
 pub IsMatrix-transposed : (m : Matrix) → IsMatrix m → IsMatrix (transposed m)
 IsMatrix-transposed m h = IsVector-columns m.modulus m.rows [] m.target 0 refl h

@@ -25,3 +25,9 @@ pub mod MultipleLaws
 pub mod RingLaws
 pub mod CombinationLaws
 pub mod HomogeneousLaws
+pub mod MatrixProductLaws
+pub mod TransposeLaws
+pub mod StackLaws
+pub mod PartLaws
+pub mod NegativeLaws
+pub mod KroneckerLaws

@@ -6,6 +6,7 @@
 
 mod combination;
 mod divisibility;
+mod matrices;
 mod multiple;
 mod number;
 mod order;
@@ -17,6 +18,10 @@ mod vector;
 
 pub use combination::matrices_act;
 pub use divisibility::{monomial_divisors, monomial_multiples, monomial_quotients};
+pub use matrices::{
+    kronecker_products, matrix_negatives, matrix_parts, matrix_products, matrix_stacks,
+    matrix_transposes,
+};
 pub use multiple::{multiples_act, multiples_of_polynomials_act};
 pub use number::{monomial_numbers, place_numbers};
 pub use order::{monomial_order, monomial_order_in_words, place_order};

@@ -1,0 +1,97 @@
+-- Kronecker products with an identity: rows moved on, rows scattered, and an identity.
+use Rattle.std.proofs.Common.{◌≡◌, ℕ, ◌+◌, ◌*◌, ◌%◌, ◌<◌, List, [], ◌∷◌, map, sym, ap, ◌∙◌, subst, inl, inr, arith}
+use Rattle.std.specs.Ordering.{nat_cmp, ordering_then}
+use Rattle.std.proofs.lemmas.Bool.{cases_lt}
+use Rattle.std.proofs.lemmas.Bool.Decides.{nat_tests}
+use Rattle.sf_algebra.specs.MatrixOperations.{moved, kronecker_terms}
+use Rattle.sf_algebra.specs.Monomials.{one, monomial_cmp}
+use Rattle.sf_algebra.specs.Residues.{sum_mod}
+use Rattle.sf_algebra.specs.Sums.{total}
+use Rattle.sf_algebra.specs.Terms.{Term, IsDescending, IsNonzeroResidue, IsCanonical}
+use Rattle.sf_algebra.specs.Vectors.{Place, place_cmp}
+use Rattle.sf_algebra.proofs.Coefficients.{same_from_total}
+use Rattle.sf_algebra.proofs.CombinationLaws.{combination-one}
+use Rattle.sf_algebra.proofs.DoubleTotals.{total-map, total-same}
+use Rattle.sf_algebra.proofs.Keys.{place_keys}
+use Rattle.sf_algebra.proofs.KroneckerTerms.{kronecker_term, moved_term, total-kronecker_terms, IsCanonical-kronecker_terms}
+use Rattle.sf_algebra.proofs.KroneckerVectors.{pair_below}
+use Rattle.sf_algebra.proofs.Lists.{AllByRecursion-weaken}
+use Rattle.sf_algebra.proofs.MultipleLaws.{multiple-one}
+use Rattle.sf_algebra.proofs.Orders.{place_cmp_linear}
+use Rattle.sf_algebra.proofs.Products.{nat_cmp-add, product-comm, product-one_first}
+use Rattle.sf_algebra.proofs.Residues.{product_mod-one, sum_mod-zero}
+use Rattle.sf_algebra.proofs.Stacks.{AllByRecursion-map}
+use Rattle.sf_algebra.proofs.Totals.{IsAdditive, additive-reduced, total-cons, total-nil, total-reduced}
+use Rattle.sf_algebra.proofs.UnitRows.{unit_term}
+
+IsDescending-moved : (by : ℕ) (ts : List (Term Place)) → IsDescending place_cmp ts → IsDescending place_cmp (moved by ts)
+IsDescending-moved by [] h = tt
+IsDescending-moved by (t ∷ ts) h = (
+  AllByRecursion-map _ (moved_term by) ts
+      (AllByRecursion-weaken _ _
+      (λ u less. ap (λ o. ordering_then o (monomial_cmp u.at.monomial t.at.monomial)) (nat_cmp-add by t.at.position u.at.position) ∙ less)
+      ts h.0),
+  IsDescending-moved by ts h.1,
+)
+
+pub IsCanonical-moved : (p by : ℕ) (ts : List (Term Place)) → IsCanonical place_cmp p ts → IsCanonical place_cmp p (moved by ts)
+IsCanonical-moved p by ts h = record { descending = IsDescending-moved by ts h.descending; residues = AllByRecursion-map (IsNonzeroResidue p) (moved_term by) ts h.residues }
+
+-- terms at each n-th position, from k on
+abbrev pub scattered : ℕ → ℕ → List (Term Place) → List (Term Place)
+scattered n k ts = map (λ (t : Term Place). record { at = record { position = t.at.position * n + k; monomial = t.at.monomial }; coefficient = t.coefficient }) ts
+
+nat_cmp-scattered : (n k a b : ℕ) → 0 < n → nat_cmp (a * n + k) (b * n + k) ≡ nat_cmp a b
+nat_cmp-scattered n k a b positive =
+    elim (cases_lt a b) [
+      | inl before ↦ let more : a * n + 0 < b * n = pair_below a 0 b n before positive in grind (arith, nat_tests)
+      | inr le ↦ elim (cases_lt b a) [
+        | inl after ↦ let more : b * n + 0 < a * n = pair_below b 0 a n after positive in grind (arith, nat_tests)
+        | inr ge ↦ let same : a ≡ b = omega arith in subst (λ c. nat_cmp (a * n + k) (c * n + k) ≡ nat_cmp a c) same (grind (arith, nat_tests))
+      ]
+    ]
+
+IsDescending-scattered : (n k : ℕ) → 0 < n → (ts : List (Term Place)) → IsDescending place_cmp ts → IsDescending place_cmp (scattered n k ts)
+IsDescending-scattered n k positive [] h = tt
+IsDescending-scattered n k positive (t ∷ ts) h = (
+  AllByRecursion-map _ (λ (t : Term Place). record { at = record { position = t.at.position * n + k; monomial = t.at.monomial }; coefficient = t.coefficient }) ts
+      (AllByRecursion-weaken _ _
+      (λ u less. ap (λ o. ordering_then o (monomial_cmp u.at.monomial t.at.monomial)) (nat_cmp-scattered n k t.at.position u.at.position positive) ∙ less)
+      ts h.0),
+  IsDescending-scattered n k positive ts h.1,
+)
+
+pub IsCanonical-scattered : (p n k : ℕ) → 0 < n → (ts : List (Term Place)) → IsCanonical place_cmp p ts → IsCanonical place_cmp p (scattered n k ts)
+IsCanonical-scattered p n k positive ts h = record {
+  descending = IsDescending-scattered n k positive ts h.descending;
+  residues = AllByRecursion-map (IsNonzeroResidue p) (λ (t : Term Place). record { at = record { position = t.at.position * n + k; monomial = t.at.monomial }; coefficient = t.coefficient }) ts h.residues;
+}
+
+module _ (p n : ℕ) (positive : 0 < p) where
+  -- a unit vector before a vector moves it
+  pub kronecker_terms-unit_first : (i : ℕ) (w : List (Term Place)) → IsCanonical place_cmp p w → kronecker_terms p n (unit_term i ∷ []) w ≡ moved (i * n) w
+  kronecker_terms-unit_first i w h =
+      combination-one place_keys p positive (λ k. k.monomial) (λ k. moved (k.position * n) w) (unit_term i)
+      ∙ multiple-one place_keys p positive (moved (i * n) w) (IsCanonical-moved p (i * n) w h)
+
+  -- a unit vector behind a vector scatters it
+  pub kronecker_terms-unit : (k : ℕ) → 0 < n → (v : List (Term Place)) → IsCanonical place_cmp p v → kronecker_terms p n v (unit_term k ∷ []) ≡ scattered n k v
+  kronecker_terms-unit k some v h =
+      same_from_total place_cmp place_cmp_linear p positive _ _ (IsCanonical-kronecker_terms p n positive v (unit_term k ∷ [])) (IsCanonical-scattered p n k some v h)
+      (λ g additive.
+      total-kronecker_terms p n positive g additive v (unit_term k ∷ [])
+      ∙ total-same p _ _ v (λ t. single g additive t)
+      ∙ sym (total-map p g (λ (t : Term Place). record { at = record { position = t.at.position * n + k; monomial = t.at.monomial }; coefficient = t.coefficient }) v))
+    where
+      single : (g : Term Place → ℕ) → IsAdditive p g → (t : Term Place)
+          → total p (λ u. g (kronecker_term p n t u)) (unit_term k ∷ []) % p ≡ g (record { at = record { position = t.at.position * n + k; monomial = t.at.monomial }; coefficient = t.coefficient }) % p
+      single g additive t =
+          total-reduced p (λ u. g (kronecker_term p n t u)) (unit_term k ∷ [])
+          ∙ total-cons p (λ u. g (kronecker_term p n t u)) (unit_term k) []
+          ∙ ap (sum_mod p _) (total-nil p (λ u. g (kronecker_term p n t u)))
+          ∙ sum_mod-zero p _
+          ∙ ap (λ u. g u % p) (λ i. record {
+            at = record { position = t.at.position * n + k; monomial = (product-comm t.at.monomial one ∙ product-one_first t.at.monomial) i };
+            coefficient = product_mod-one p t.coefficient i;
+          })
+          ∙ additive-reduced p g additive (record { position = t.at.position * n + k; monomial = t.at.monomial }) t.coefficient

@@ -1,0 +1,41 @@
+-- What holds of the Kronecker product of graded matrices: the tensor product of the maps. (Any textbook of linear algebra.)
+use Rattle.std.specs.Prelude.{◌≡◌, ℕ, ◌+◌, ◌*◌, ◌<◌, List, length, ℤ}
+use Rattle.sf_algebra.specs.Matrices.{Matrix, row_degrees, IsMatrix}
+use Rattle.sf_algebra.specs.MatrixOperations.{row_at, identity, matrix_product, transposed, moved, degree_sums, kronecker}
+use Rattle.sf_algebra.specs.MatrixProductLaws.{IsComposable}
+use Rattle.sf_algebra.specs.Polynomials.{polynomial_product}
+use Rattle.sf_algebra.specs.Vectors.{entry}
+
+-- a Kronecker product is a matrix, whose rows have the sums of the degrees
+abbrev pub HasKroneckerProducts : Type 0
+HasKroneckerProducts =
+    (a b : Matrix) → 0 < a.modulus → a.modulus ≡ b.modulus → IsMatrix a → IsMatrix b
+    → IsMatrix (kronecker a b) × (row_degrees (kronecker a b) ≡ degree_sums (row_degrees a) (row_degrees b))
+
+-- its entry for the rows i and k and the columns j and l is the product of a's at (i, j) and b's at (k, l)
+abbrev pub MultipliesEntries : Type 0
+MultipliesEntries =
+    (a b : Matrix) → 0 < a.modulus → IsMatrix b → (i k j l : ℕ) → k < length b.rows → l < length b.target
+    → entry (j * length b.target + l) (row_at (kronecker a b).rows (i * length b.rows + k)) ≡ polynomial_product a.modulus (entry j (row_at a.rows i)) (entry l (row_at b.rows k))
+
+-- with an identity as the first factor, the rows of the second stand in blocks of its columns
+abbrev pub RepeatsSecondFactor : Type 0
+RepeatsSecondFactor =
+    (degrees : List ℤ) (b : Matrix) → 0 < b.modulus → IsMatrix b → (i k : ℕ) → i < length degrees → k < length b.rows
+    → row_at (kronecker (identity b.modulus degrees) b).rows (i * length b.rows + k) ≡ moved (i * length b.target) (row_at b.rows k)
+
+-- identities give an identity
+abbrev pub KeepsIdentities : Type 0
+KeepsIdentities = (p : ℕ) → 1 < p → (ds es : List ℤ) → kronecker (identity p ds) (identity p es) ≡ identity p (degree_sums ds es)
+
+-- products give a product
+abbrev pub KeepsProducts : Type 0
+KeepsProducts =
+    (a b c d : Matrix) → IsComposable a b → IsComposable c d → a.modulus ≡ c.modulus → IsMatrix c
+    → kronecker (matrix_product a b) (matrix_product c d) ≡ matrix_product (kronecker a c) (kronecker b d)
+
+-- transposes give a transpose
+abbrev pub KeepsTransposes : Type 0
+KeepsTransposes =
+    (a b : Matrix) → 0 < a.modulus → a.modulus ≡ b.modulus → IsMatrix a → IsMatrix b
+    → transposed (kronecker a b) ≡ kronecker (transposed a) (transposed b)
