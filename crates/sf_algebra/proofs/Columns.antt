@@ -64,7 +64,7 @@ module _ (j : ℕ) where
       (AllByRecursion-at_position _ i (entry j v.terms)
       (AllByRecursion-always _ (λ e. AllByRecursion-weaken _ _ (λ t later. place_cmp-later t.at (with_position i e).at (omega arith)) (column_terms j (suc i) vs) (positions-column_terms (suc i) vs)) (entry j v.terms)))
 
-  residues-column_terms : (p i : ℕ) (vs : List Vector) → AllByRecursion (λ v. AllByRecursion (IsNonzeroResidue p) v.terms) vs → AllByRecursion (IsNonzeroResidue p) (column_terms j i vs)
+  pub residues-column_terms : (p i : ℕ) (vs : List Vector) → AllByRecursion (λ v. AllByRecursion (IsNonzeroResidue p) v.terms) vs → AllByRecursion (IsNonzeroResidue p) (column_terms j i vs)
   residues-column_terms p i [] h = tt
   residues-column_terms p i (v ∷ vs) h =
       AllByRecursion-append _ (at_position i (entry j v.terms)) (column_terms j (suc i) vs)

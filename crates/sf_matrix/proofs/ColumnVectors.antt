@@ -1,10 +1,14 @@
 -- Turning columns into vectors, one after another.
-use Rattle.std.proofs.Common.{◌≡◌, ℕ, zero, suc, ◌+◌, ◌<◌, List, [], ◌∷◌, ◌++◌, length, drop, get_or, slice_set, length-set, neg_ℤ, ℤ, pos, refl, sym, ◌∙◌, ap, arith, append_assoc, append-nil, ◌≤◌}
+use Rattle.std.proofs.Common.{◌≡◌, ℕ, zero, suc, ◌+◌, ◌<◌, List, [], ◌∷◌, ◌++◌, length, map, drop, get_or, slice_set, length-set, neg_ℤ, ℤ, pos, refl, sym, ◌∙◌, ap, arith, append_assoc, append-nil, ◌≤◌}
 use Rattle.std.proofs.lemmas.List.{drop_more, drop-set-lt, get_or-drop, drop_all}
 use Rattle.std.specs.List.{AllByRecursion}
-use Rattle.sf_algebra.specs.MatrixOperations.{column_terms, column_rows}
-use Rattle.sf_algebra.specs.Terms.{Term}
-use Rattle.sf_algebra.specs.Vectors.{Place, Vector}
+use Rattle.std.specs.List.{AllByRecursion}
+use Rattle.sf_algebra.specs.Matrices.{Matrix, row_degrees}
+use Rattle.sf_algebra.specs.MatrixOperations.{column_terms, column_rows, transposed}
+use Rattle.sf_algebra.specs.Terms.{Term, IsDescending}
+use Rattle.sf_algebra.specs.Vectors.{Place, Vector, IsVector, place_cmp}
+use Rattle.sf_algebra.proofs.Columns.{IsDescending-column_terms, residues-column_terms}
+use Rattle.sf_algebra.proofs.Lists.{AllByRecursion-weaken}
 use Rattle.sf_matrix.specs.Columns.{column_lists, vectors_of}
 
 -- the columns of rows as vectors are the rows of the transpose
@@ -51,3 +55,21 @@ module _ (ds : List ℤ) (cs : List (List (Term Place))) (done : List Vector) (l
 -- once all columns are turned
 pub IsTurning-end : (ds : List ℤ) (cs : List (List (Term Place))) (done : List Vector) (left : List (List (Term Place))) (j : ℕ) → IsTurning ds cs done left j → length ds ≤ j → done ≡ vectors_of ds cs
 IsTurning-end ds cs done left j h all = sym (append-nil done) ∙ ap (λ es. done ++ vectors_of es (drop j cs)) (sym (drop_all j ds all)) ∙ h.rows
+
+-- the parts of the transpose, as a program makes them
+pub transposed-parts : (m : Matrix) (p : ℕ) (target : List ℤ) (cs : List (List (Term Place))) (rows : List Vector) → p ≡ m.modulus → target ≡ map neg_ℤ (row_degrees m) → cs ≡ column_lists m.rows 0 m.target → rows ≡ vectors_of m.target cs
+    → record { modulus = p; target = target; rows = rows } ≡ transposed m
+transposed-parts m p target cs rows same_p same_target columns vectors =
+    let same_rows = vectors ∙ ap (vectors_of m.target) columns ∙ vectors_of-column_lists m.rows 0 m.target in
+    λ l. record { modulus = same_p l; target = same_target l; rows = same_rows l }
+
+-- the columns of homogeneous rows descend and have no coefficient 0
+module _ (p : ℕ) (degrees : List ℤ) (rows : List Vector) (h : AllByRecursion (IsVector p degrees) rows) where
+  pub IsDescending-column_lists : (j : ℕ) (ds : List ℤ) → AllByRecursion (IsDescending place_cmp) (column_lists rows j ds)
+  IsDescending-column_lists j [] = tt
+  IsDescending-column_lists j (d ∷ ds) = (IsDescending-column_terms j 0 rows (AllByRecursion-weaken _ _ (λ v k. k.canonical.descending) rows h), IsDescending-column_lists (suc j) ds)
+
+  pub nonzero-column_lists : (j : ℕ) (ds : List ℤ) → AllByRecursion (AllByRecursion (λ (t : Term Place). 0 < t.coefficient)) (column_lists rows j ds)
+  nonzero-column_lists j [] = tt
+  nonzero-column_lists j (d ∷ ds) =
+      (AllByRecursion-weaken _ _ (λ t r. r.0) (column_terms j 0 rows) (residues-column_terms j p 0 rows (AllByRecursion-weaken _ _ (λ v k. k.canonical.residues) rows h)), nonzero-column_lists (suc j) ds)

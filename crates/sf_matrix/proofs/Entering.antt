@@ -1,13 +1,15 @@
 -- Entering rows into columns, term by term and row by row.
-use Rattle.std.proofs.Common.{◌≡◌, ◌≢◌, ◌⊎◌, inl, inr, ℕ, zero, suc, ◌+◌, ◌<◌, ◌≤◌, List, [], ◌∷◌, ◌++◌, length, take, drop, get_or, slice_set, ℤ, pos, refl, sym, ◌∙◌, ap, arith, append-nil, append_assoc}
-use Rattle.std.specs.List.{AllByRecursion}
+use Rattle.std.proofs.Common.{◌≡◌, ◌≢◌, ◌⊎◌, inl, inr, ℕ, zero, suc, ◌+◌, ◌<◌, ◌≤◌, List, [], ◌∷◌, ◌++◌, length, take, drop, get_or, slice_set, Some, subst, ℤ, pos, refl, sym, ◌∙◌, ap, arith, append-nil, append_assoc}
+use Rattle.std.specs.List.{slice_get}
+use Rattle.std.proofs.lemmas.Option.{slice_get_within}
 use Rattle.std.proofs.lemmas.Bool.{cases_eq}
-use Rattle.std.proofs.lemmas.List.{drop_more}
+use Rattle.std.proofs.lemmas.List.{drop_more, length-take-le}
 use Rattle.sf_algebra.specs.MatrixOperations.{at_position, column_terms}
 use Rattle.sf_algebra.specs.Terms.{Term}
 use Rattle.sf_algebra.specs.Vectors.{Place, Vector, entry}
 use Rattle.sf_algebra.proofs.Columns.{column_terms-push}
 use Rattle.sf_algebra.proofs.Entries.{entry-here, entry-elsewhere}
+use Rattle.sf_algebra.proofs.Lists.{take-slice_get}
 use Rattle.sf_algebra.proofs.Positions.{entry-append}
 use Rattle.sf_matrix.specs.Columns.{entered, column_lists}
 
@@ -71,3 +73,11 @@ column_lists-empty cs i ds whole below h =
     append_assoc cs ([] ∷ []) (column_lists [] (i + 1) (drop (i + 1) ds))
     ∙ ap (λ es. cs ++ es) (sym (ap (column_lists [] i) (drop_more ds i (get_or ds i (pos 0)) below) ∙ ap (λ n. [] ∷ column_lists [] n (drop (i + 1) ds)) (let next : suc i ≡ i + 1 = omega arith in next)))
     ∙ h
+
+-- the row at a place entered into the columns of the rows before it
+pub column_lists-take : (rows : List Vector) (i : ℕ) (v : Vector) (ds : List ℤ) → slice_get rows i ≡ Some v → entered i v.terms 0 (column_lists (take i rows) 0 ds) ≡ column_lists (take (i + 1) rows) 0 ds
+column_lists-take rows i v ds read =
+    let below = slice_get_within rows i v read in
+    let size : length (take i rows) ≡ i = length-take-le i rows (omega arith) in
+    subst (λ n. entered n v.terms 0 (column_lists (take i rows) 0 ds) ≡ column_lists (take i rows ++ v ∷ []) 0 ds) size (entered-column_lists (take i rows) v 0 ds)
+    ∙ ap (λ vs. column_lists vs 0 ds) (sym (take-slice_get rows i v read))
