@@ -1,9 +1,9 @@
 -- What keeps products of terms within the room of a monomial.
-use Rattle.std.specs.Prelude.{ℕ, ◌+◌, ◌≤◌, List, ℤ, pos, neg_ℤ, ◌+ℤ◌, ◌≤ℤ◌}
+use Rattle.std.specs.Prelude.{ℕ, ◌+◌, ◌*◌, ◌^◌, ◌<◌, ◌≤◌, List, ℤ, pos, neg_ℤ, ◌+ℤ◌, ◌≤ℤ◌}
 use Rattle.std.specs.List.{AllByRecursion}
 use Rattle.sf_algebra.specs.Monomials.{Monomial, exponent_sum}
 use Rattle.sf_algebra.specs.Terms.{Term}
-use Rattle.sf_algebra.specs.Vectors.{Place}
+use Rattle.sf_algebra.specs.Vectors.{Place, Vector}
 
 -- the greatest sum of exponents of a monomial
 abbrev pub GREATEST_SUM : ℕ
@@ -28,3 +28,19 @@ GREATEST_DEGREE = pos 2147483647
 -- the negative of a degree has room in 32 bits
 abbrev pub HasNegative : ℤ → Type 0
 HasNegative d = neg_ℤ GREATEST_DEGREE ≤ℤ d
+
+-- a degree has room in 32 bits
+abbrev pub IsDegree : ℤ → Type 0
+IsDegree d = (neg_ℤ (pos 2147483648) ≤ℤ d) × (d ≤ℤ GREATEST_DEGREE)
+
+-- the products of each term of one list with each of another have room
+abbrev pub TermsFit : List (Term Place) → List (Term Place) → Type 0
+TermsFit ts us = AllByRecursion (λ (t : Term Place). MultipleFits t.at.monomial us) ts
+
+-- the positions of tensor products with terms over n columns have room
+abbrev pub PositionsFit : ℕ → List (Term Place) → List (Term Place) → Type 0
+PositionsFit n ts us = AllByRecursion (λ (t : Term Place). AllByRecursion (λ (u : Term Place). t.at.position * n + u.at.position < 2 ^ 64) us) ts
+
+-- the products of each term of each row with each term of each of the others have room
+abbrev pub KroneckerFits : List Vector → List Vector → Type 0
+KroneckerFits rows others = AllByRecursion (λ (v : Vector). AllByRecursion (λ (w : Vector). TermsFit v.terms w.terms) others) rows

@@ -8,14 +8,14 @@ ghost use Rattle.sf_algebra.specs.Vectors.{place_cmp};
 ghost use Rattle.sf_matrix.specs.Bounds.{GREATEST_SUM, MultipleFits, CombinationFits};
 ghost use Rattle.sf_matrix.specs.Places.{factor_of};
 
-use crate::sums::sum_of_terms;
+use crate::sums::sum_of_gathered;
 use crate::vector::{Term, Vector};
 use sf_field::{Modulus, OutOfMemory};
 use std::alloc::Global;
 
 impl Term {
     /// The product with a monomial and a coefficient, those of `factor`; the position stays.
-    fn times(&self, modulus: Modulus, factor: &Term) -> Term
+    pub(crate) fn times(&self, modulus: Modulus, factor: &Term) -> Term
         requires room { exponent_sum factor.now.at.monomial + exponent_sum self.now.at.monomial ≤ GREATEST_SUM }
         requires residue { self.now.coefficient < modulus }
         requires factor { factor.now.coefficient < modulus }
@@ -49,7 +49,7 @@ fn push_multiple(
 }
 
 /// The combination of the rows with the coefficients `c`: the sum of each term of `c` times the row at its position.
-pub fn combination(
+pub(crate) fn combination(
     alloc: Global,
     modulus: Modulus,
     c: &[Term],
@@ -67,5 +67,5 @@ pub fn combination(
         let row = &rows[factor.position as usize];
         push_multiple(&mut products, modulus, factor, &row.terms)?;
     }
-    sum_of_terms(alloc, modulus, &products)
+    sum_of_gathered(alloc, modulus, products)
 }

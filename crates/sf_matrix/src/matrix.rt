@@ -3,6 +3,7 @@ ghost use Rattle.sf_algebra.specs.Vectors.{IsVector};
 ghost use Rattle.sf_algebra.specs.Matrices.{IsMatrix};
 
 mod identity;
+mod kron;
 mod negate;
 mod part;
 mod product;

@@ -132,6 +132,23 @@ pub fn sum_of_terms(
     }
 }
 
+/// The same, of terms that were gathered for it: these are given back where they are canonical as they stand.
+pub(crate) fn sum_of_gathered(
+    alloc: Global,
+    modulus: Modulus,
+    terms: Vec<Term>,
+) -> Result<Vec<Term>, OutOfMemory>
+    ensures sum { IfOk result (λ v. v.items ≡ normal place_cmp modulus terms.items) }
+    ensures canonical { IfOk result (λ v. IsCanonical place_cmp modulus v.items) }
+{
+    modulus.facts();
+    if are_canonical(modulus, &terms) {
+        Ok(terms)
+    } else {
+        sum_of_terms(alloc, modulus, &terms)
+    }
+}
+
 impl Vector {
     /// The vector of this degree that a list of terms means, in any order and with coefficients of any size.
     pub fn from_terms(

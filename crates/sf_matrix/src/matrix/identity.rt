@@ -3,9 +3,9 @@ ghost use Rattle.sf_algebra.specs.MatrixOperations.{unit_vector, identity};
 
 use crate::free::Free;
 use crate::matrix::Matrix;
-use sf_mono::Mono;
 use crate::vector::{Term, Vector};
 use sf_field::{Copied, Modulus, OutOfMemory};
+use sf_mono::Mono;
 use std::alloc::Global;
 
 impl Matrix {
