@@ -35,6 +35,7 @@ pub mod KroneckerUnits
 pub mod KroneckerIdentities
 pub mod KroneckerEntries
 pub mod KroneckerTransposes
+pub mod KroneckerFactors
 pub mod Residues
 pub mod Primes
 pub mod Inverses

@@ -1,5 +1,5 @@
 -- What holds of the rows of one graded matrix above those of another. (Any textbook of linear algebra.)
-use Rattle.std.specs.Prelude.{◌≡◌, ◌+◌, ◌++◌, length}
+use Rattle.std.specs.Prelude.{◌≡◌, ℕ, ◌≤◌, ◌+◌, ◌++◌, length}
 use Rattle.sf_algebra.specs.Matrices.{Matrix, row_degrees, IsMatrix}
 use Rattle.sf_algebra.specs.MatrixOperations.{matrix_product, stacked, part}
 
@@ -18,6 +18,11 @@ abbrev pub HasLastRows : Type 0
 HasLastRows =
     (a b : Matrix) → a.modulus ≡ b.modulus → a.target ≡ b.target → IsMatrix b
     → part (length a.rows) (length a.rows + length b.rows) 0 (length b.target) (stacked a b) ≡ b
+
+-- rows of a matrix and the rows behind them are stacked to a part
+abbrev pub StacksParts : Type 0
+StacksParts =
+    (r0 r1 r2 c0 c1 : ℕ) (m : Matrix) → r0 ≤ r1 → r1 ≤ r2 → stacked (part r0 r1 c0 c1 m) (part r1 r2 c0 c1 m) ≡ part r0 r2 c0 c1 m
 
 abbrev pub HasAssociativeStacks : Type 0
 HasAssociativeStacks = (a b c : Matrix) → stacked (stacked a b) c ≡ stacked a (stacked b c)

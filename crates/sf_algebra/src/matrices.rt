@@ -2,7 +2,7 @@ ghost use Rattle.sf_algebra.specs.KroneckerLaws.{HasKroneckerProducts, Multiplie
 ghost use Rattle.sf_algebra.specs.MatrixProductLaws.{HasMatrixProducts, MultipliesRowsByColumns, HasMatrixIdentities, LeavesOutFirstIdentity, LeavesOutSecondIdentity, HasAssociativeProducts};
 ghost use Rattle.sf_algebra.specs.NegativeLaws.{HasMatrixNegatives, NegatesEntries, NegatesBack, NegatesWithFirstFactor, NegatesWithSecondFactor, TransposesNegatives};
 ghost use Rattle.sf_algebra.specs.PartLaws.{HasMatrixParts, PicksEntries, HasWholeParts, HasPartsOfParts, MultipliesParts, TransposesParts};
-ghost use Rattle.sf_algebra.specs.StackLaws.{HasMatrixStacks, HasFirstRows, HasLastRows, HasAssociativeStacks, MultipliesStacks};
+ghost use Rattle.sf_algebra.specs.StackLaws.{HasMatrixStacks, HasFirstRows, HasLastRows, StacksParts, HasAssociativeStacks, MultipliesStacks};
 ghost use Rattle.sf_algebra.specs.TransposeLaws.{HasMatrixTransposes, ExchangesRowsAndColumns, TransposesBack, TransposesIdentities, ReversesProducts};
 
 /// The graded matrices are the arrows of a category: rows go to columns, and the product is the composition.
@@ -29,6 +29,7 @@ pub fn matrix_stacks()
     ensures matrices { HasMatrixStacks }
     ensures first_rows { HasFirstRows }
     ensures last_rows { HasLastRows }
+    ensures parts { StacksParts }
     ensures associative { HasAssociativeStacks }
     ensures products { MultipliesStacks }
 {}
