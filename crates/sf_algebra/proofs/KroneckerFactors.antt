@@ -1,8 +1,8 @@
 -- The Kronecker product as the product of two with an identity, the rows of which are those of one matrix, moved or scattered.
 use Rattle.std.proofs.Common.{◌≡◌, refl, ℕ, suc, ◌+◌, ◌*◌, ◌<◌, ◌≤◌, List, [], ◌∷◌, ◌++◌, map, length, ℤ, ◌+ℤ◌, sym, ap, ◌∙◌, subst, arith, append_assoc, append-nil}
-use Rattle.std.specs.List.{AllByRecursion, flat_map}
+use Rattle.std.specs.List.{flat_map}
 use Rattle.sf_algebra.specs.Matrices.{Matrix, row_degrees, IsMatrix}
-use Rattle.sf_algebra.specs.MatrixOperations.{unit_vector, unit_rows, identity, matrix_product, moved, kronecker_terms, kronecker}
+use Rattle.sf_algebra.specs.MatrixOperations.{unit_vector, unit_rows, identity, matrix_product, moved, kronecker}
 use Rattle.sf_algebra.specs.Vectors.{Vector}
 use Rattle.sf_algebra.proofs.HomogeneousVectors.{HasCanonicalRows-from_IsMatrix}
 use Rattle.sf_algebra.proofs.Identities.{IsMatrix-identity, row_degrees-identity}
