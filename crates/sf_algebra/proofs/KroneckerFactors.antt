@@ -75,3 +75,16 @@ kronecker-factors a b above moduli h k =
     (record { positive = positive; moduli = moduli; degrees = refl })
     refl
     (IsMatrix-identity a.modulus above (row_degrees b))
+
+-- the two factors may come in either order
+pub kronecker-factors_exchanged : (a b : Matrix) → 1 < a.modulus → a.modulus ≡ b.modulus → IsMatrix a → IsMatrix b
+    → kronecker a b ≡ matrix_product (kronecker (identity a.modulus (row_degrees a)) b) (kronecker a (identity a.modulus b.target))
+kronecker-factors_exchanged a b above moduli h k =
+    let positive : 0 < a.modulus = omega arith in
+    (λ i. kronecker (sym (matrix_product-identity_first a positive h) i) (sym (matrix_product-identity b (subst (λ p. 0 < p) moduli positive) k) i))
+    ∙ ap (λ p. kronecker (matrix_product (identity a.modulus (row_degrees a)) a) (matrix_product b (identity p b.target))) (sym moduli)
+    ∙ kronecker-matrix_product (identity a.modulus (row_degrees a)) a b (identity a.modulus b.target)
+    (record { positive = positive; moduli = refl; degrees = refl })
+    (record { positive = subst (λ p. 0 < p) moduli positive; moduli = sym moduli; degrees = row_degrees-identity a.modulus b.target })
+    moduli
+    k

@@ -36,6 +36,7 @@ pub mod KroneckerIdentities
 pub mod KroneckerEntries
 pub mod KroneckerTransposes
 pub mod KroneckerFactors
+pub mod KroneckerSums
 pub mod Residues
 pub mod Primes
 pub mod Inverses

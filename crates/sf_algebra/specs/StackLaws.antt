@@ -1,7 +1,7 @@
 -- What holds of the rows of one graded matrix above those of another. (Any textbook of linear algebra.)
 use Rattle.std.specs.Prelude.{◌≡◌, ℕ, ◌≤◌, ◌+◌, ◌++◌, length}
 use Rattle.sf_algebra.specs.Matrices.{Matrix, row_degrees, IsMatrix}
-use Rattle.sf_algebra.specs.MatrixOperations.{matrix_product, stacked, part}
+use Rattle.sf_algebra.specs.MatrixOperations.{matrix_product, negated, stacked, part}
 
 -- matrices over one free module are stacked to a matrix
 abbrev pub HasMatrixStacks : Type 0
@@ -30,3 +30,7 @@ HasAssociativeStacks = (a b c : Matrix) → stacked (stacked a b) c ≡ stacked 
 -- a stack times a matrix is the stack of the products
 abbrev pub MultipliesStacks : Type 0
 MultipliesStacks = (a b n : Matrix) → a.modulus ≡ b.modulus → matrix_product (stacked a b) n ≡ stacked (matrix_product a n) (matrix_product b n)
+
+-- the negative of a stack is the stack of the negatives
+abbrev pub NegatesStacks : Type 0
+NegatesStacks = (a b : Matrix) → a.modulus ≡ b.modulus → negated (stacked a b) ≡ stacked (negated a) (negated b)
