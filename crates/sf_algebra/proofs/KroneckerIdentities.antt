@@ -1,14 +1,21 @@
 -- The rows of a Kronecker product with an identity, and the Kronecker product of two identities.
-use Rattle.std.proofs.Common.{◌≡◌, refl, ℕ, suc, ◌+◌, ◌*◌, ◌<◌, List, [], ◌∷◌, ◌++◌, map, length, ℤ, ◌+ℤ◌, sym, ap, ◌∙◌, arith, suc-mul, zero-mul}
+use Rattle.std.proofs.Common.{if◌then◌else◌, ◌==◌, eqb, true, false, inl, inr, ◌≡◌, refl, ℕ, suc, ◌+◌, ◌*◌, ◌<◌, List, [], ◌∷◌, ◌++◌, map, length, ℤ, ◌+ℤ◌, sym, ap, ◌∙◌, arith, suc-mul, zero-mul}
+use Rattle.std.proofs.lemmas.Bool.{cases_eq}
+use Rattle.std.proofs.lemmas.Bool.Decides.{nat_tests}
 use Rattle.std.proofs.lemmas.List.{length-map}
 use Rattle.sf_algebra.specs.Matrices.{Matrix, IsMatrix}
 use Rattle.sf_algebra.specs.MatrixOperations.{row_at, unit_vector, unit_rows, identity, moved, kronecker_terms, degree_sums, kronecker}
+use Rattle.sf_algebra.specs.Polynomials.{polynomial_product}
 use Rattle.sf_algebra.specs.Terms.{IsCanonical}
-use Rattle.sf_algebra.specs.Vectors.{place_cmp}
-use Rattle.sf_algebra.proofs.Identities.{length-unit_rows, unit_rows-append}
+use Rattle.sf_algebra.specs.Vectors.{place_cmp, entry}
+use Rattle.sf_algebra.proofs.Identities.{IsMatrix-identity, length-unit_rows, unit_rows-append}
 use Rattle.sf_algebra.proofs.Kronecker.{kronecker_row, row_at-kronecker}
 use Rattle.sf_algebra.proofs.KroneckerProducts.{kronecker_rows}
 use Rattle.sf_algebra.proofs.KroneckerUnits.{scattered, kronecker_terms-unit_first, kronecker_terms-unit}
+use Rattle.sf_algebra.proofs.KroneckerEntries.{entry-kronecker}
+use Rattle.sf_algebra.proofs.Polynomials.{polynomial_product-comm, polynomial_product-nil, polynomial_product-one}
+use Rattle.sf_algebra.proofs.Positions.{IsCanonical-entry}
+use Rattle.sf_algebra.proofs.TransposedProducts.{entry-unit_rows, entry-unit_rows_other}
 use Rattle.sf_algebra.proofs.MatrixRows.{IsCanonical-matrix_row}
 use Rattle.sf_algebra.proofs.UnitRows.{unit_term, row_at-unit_rows}
 
@@ -55,3 +62,25 @@ module _ (p : ℕ) (above : 1 < p) where
     target = degree_sums ds es;
     rows = kronecker_rows-units es 0 0 ds (sym (zero-mul (length es))) i;
   }
+
+-- with an identity second, the entries of the other matrix stand where the identity has its ones
+pub entry-kronecker_identity : (a : Matrix) (es : List ℤ) → 1 < a.modulus → IsMatrix a → (i k j l : ℕ) → k < length es → l < length es
+    → entry (j * length es + l) (row_at (kronecker a (identity a.modulus es)).rows (i * length es + k)) ≡ (if k == l then entry j (row_at a.rows i) else [])
+entry-kronecker_identity a es above h i k j l row column =
+    let positive : 0 < a.modulus = omega arith in
+    let size : length (unit_rows 0 es) ≡ length es = length-unit_rows 0 es in
+    ap (λ n. entry (j * length es + l) (row_at (kronecker a (identity a.modulus es)).rows (i * n + k))) (sym size)
+    ∙ entry-kronecker a (identity a.modulus es) positive (IsMatrix-identity a.modulus above es) i k j l (omega arith) column
+    ∙ polynomial_product-comm a.modulus positive (entry j (row_at a.rows i)) (entry l (row_at (unit_rows 0 es) k))
+    ∙ elim (cases_eq k l) [
+      | inl same ↦
+          let yes : eqb k l ≡ true = grind (arith, nat_tests) in
+          ap (λ c. polynomial_product a.modulus c (entry j (row_at a.rows i))) (ap (λ c. entry c (row_at (unit_rows 0 es) k)) (sym same) ∙ entry-unit_rows es k row)
+          ∙ polynomial_product-one a.modulus positive (entry j (row_at a.rows i)) (IsCanonical-entry a.modulus j (row_at a.rows i) (IsCanonical-matrix_row a.modulus a.target a.rows h i))
+          ∙ ap (λ b. if b then entry j (row_at a.rows i) else []) (sym yes)
+      | inr other ↦
+          let no : eqb k l ≡ false = grind (arith, nat_tests) in
+          ap (λ c. polynomial_product a.modulus c (entry j (row_at a.rows i))) (entry-unit_rows_other es k l other)
+          ∙ polynomial_product-nil a.modulus positive (entry j (row_at a.rows i))
+          ∙ ap (λ b. if b then entry j (row_at a.rows i) else []) (sym no)
+    ]

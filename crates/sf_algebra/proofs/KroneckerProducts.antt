@@ -9,6 +9,7 @@ use Rattle.sf_algebra.specs.Multiples.{place_product, combination}
 use Rattle.sf_algebra.specs.Terms.{Term}
 use Rattle.sf_algebra.specs.Vectors.{Place, Vector, place_cmp}
 use Rattle.sf_algebra.proofs.Associativity.{combination_combination}
+use Rattle.sf_algebra.proofs.Columns.{AllByRecursion-always}
 use Rattle.sf_algebra.proofs.CombinationLaws.{combination-same, combination-rows}
 use Rattle.sf_algebra.proofs.Combinations.{IsCanonical-combination, total-combination}
 use Rattle.sf_algebra.proofs.DoubleTotals.{total-map}
@@ -54,12 +55,12 @@ kronecker_row-with_terms : (p n m : ℕ) (f g h : List (Term Place) → List (Te
 kronecker_row-with_terms p n m f g h u [] same = refl
 kronecker_row-with_terms p n m f g h u (v ∷ vs) same = λ i. record { degree = u.degree +ℤ v.degree; terms = same.0 i } ∷ kronecker_row-with_terms p n m f g h u vs same.1 i
 
-kronecker_rows-with_terms : (p n m : ℕ) (f g h : List (Term Place) → List (Term Place)) (us vs : List Vector)
-    → ((u : List (Term Place)) → AllByRecursion (λ v. kronecker_terms p n (f u) (g v.terms) ≡ h (kronecker_terms p m u v.terms)) vs)
+pub kronecker_rows-with_terms : (p n m : ℕ) (f g h : List (Term Place) → List (Term Place)) (us vs : List Vector)
+    → AllByRecursion (λ u. AllByRecursion (λ v. kronecker_terms p n (f u.terms) (g v.terms) ≡ h (kronecker_terms p m u.terms v.terms)) vs) us
     → kronecker_rows p n (with_terms f us) (with_terms g vs) ≡ with_terms h (kronecker_rows p m us vs)
 kronecker_rows-with_terms p n m f g h [] vs same = refl
 kronecker_rows-with_terms p n m f g h (u ∷ us) vs same =
-    (λ i. kronecker_row-with_terms p n m f g h u vs (same u.terms) i ++ kronecker_rows-with_terms p n m f g h us vs same i)
+    (λ i. kronecker_row-with_terms p n m f g h u vs same.0 i ++ kronecker_rows-with_terms p n m f g h us vs same.1 i)
     ∙ sym (map-append (λ (v : Vector). record { degree = v.degree; terms = h v.terms }) (kronecker_row p m u vs) (kronecker_rows p m us vs))
 
 pub kronecker-matrix_product : (a b c d : Matrix) → IsComposable a b → IsComposable c d → a.modulus ≡ c.modulus → IsMatrix c
@@ -69,7 +70,7 @@ kronecker-matrix_product a b c d ab cd moduli is_matrix =
     let n = length d.target in
     let rows = ap (λ q. kronecker_rows p n (with_terms (row_combination p b.rows) a.rows) (with_terms (row_combination q d.rows) c.rows)) (sym moduli)
     ∙ kronecker_rows-with_terms p n (length c.target) (row_combination p b.rows) (row_combination p d.rows) (row_combination p (kronecker_rows p n b.rows d.rows)) a.rows c.rows
-    (λ u. AllByRecursion-weaken _ _ (λ v k. row u v.terms (AllByRecursion-weaken _ _ (λ t e. e.0) v.terms k.homogeneous)) c.rows is_matrix)
+    (AllByRecursion-always _ (λ u. AllByRecursion-weaken _ _ (λ v k. row u.terms v.terms (AllByRecursion-weaken _ _ (λ t e. e.0) v.terms k.homogeneous)) c.rows is_matrix) a.rows)
     ∙ ap (λ q. with_terms (row_combination p (kronecker_rows q n b.rows d.rows)) (kronecker_rows p (length c.target) a.rows c.rows)) ab.moduli in
     λ i. record { modulus = p; target = degree_sums b.target d.target; rows = rows i }
   where

@@ -1,20 +1,21 @@
 -- Kronecker products with an identity: rows moved on, rows scattered, and an identity.
-use Rattle.std.proofs.Common.{◌≡◌, ℕ, ◌+◌, ◌*◌, ◌%◌, ◌<◌, List, [], ◌∷◌, map, sym, ap, ◌∙◌, subst, inl, inr, arith}
+use Rattle.std.proofs.Common.{ℤ, ◌+ℤ◌, length, ◌≡◌, ℕ, ◌+◌, ◌*◌, ◌%◌, ◌<◌, List, [], ◌∷◌, map, sym, ap, ◌∙◌, subst, inl, inr, arith}
 use Rattle.std.specs.Ordering.{nat_cmp, ordering_then}
 use Rattle.std.proofs.lemmas.Bool.{cases_lt}
 use Rattle.std.proofs.lemmas.Bool.Decides.{nat_tests}
-use Rattle.sf_algebra.specs.MatrixOperations.{moved, kronecker_terms}
+use Rattle.sf_algebra.specs.MatrixOperations.{unit_vector, moved, kronecker_terms, degree_sums}
 use Rattle.sf_algebra.specs.Monomials.{one, monomial_cmp}
 use Rattle.sf_algebra.specs.Residues.{sum_mod}
 use Rattle.sf_algebra.specs.Sums.{total}
 use Rattle.sf_algebra.specs.Terms.{Term, IsDescending, IsNonzeroResidue, IsCanonical}
-use Rattle.sf_algebra.specs.Vectors.{Place, place_cmp}
+use Rattle.sf_algebra.specs.Vectors.{Place, Vector, place_cmp, generator_degree, IsVector}
 use Rattle.sf_algebra.proofs.Coefficients.{same_from_total}
 use Rattle.sf_algebra.proofs.CombinationLaws.{combination-one}
 use Rattle.sf_algebra.proofs.DoubleTotals.{total-map, total-same}
 use Rattle.sf_algebra.proofs.Keys.{place_keys}
 use Rattle.sf_algebra.proofs.KroneckerTerms.{kronecker_term, moved_term, total-kronecker_terms, IsCanonical-kronecker_terms}
-use Rattle.sf_algebra.proofs.KroneckerVectors.{pair_below}
+use Rattle.sf_algebra.proofs.KroneckerVectors.{pair_below, IsVector-kronecker_terms}
+use Rattle.sf_algebra.proofs.HomogeneousVectors.{IsVector-unit_vector}
 use Rattle.sf_algebra.proofs.Lists.{AllByRecursion-weaken}
 use Rattle.sf_algebra.proofs.MultipleLaws.{multiple-one}
 use Rattle.sf_algebra.proofs.Orders.{place_cmp_linear}
@@ -95,3 +96,18 @@ module _ (p n : ℕ) (positive : 0 < p) where
             coefficient = product_mod-one p t.coefficient i;
           })
           ∙ additive-reduced p g additive (record { position = t.at.position * n + k; monomial = t.at.monomial }) t.coefficient
+
+module _ (p : ℕ) (above : 1 < p) (ds es : List ℤ) where
+  -- a vector moved on by whole blocks, over the sums of degrees
+  pub IsVector-moved : (i : ℕ) (w : Vector) → i < length ds → IsVector p es w → IsVector p (degree_sums ds es) (record { degree = generator_degree ds i +ℤ w.degree; terms = moved (i * length es) w.terms })
+  IsVector-moved i w inside h =
+      let positive : 0 < p = omega arith in
+      subst (λ ts. IsVector p (degree_sums ds es) (record { degree = generator_degree ds i +ℤ w.degree; terms = ts })) (kronecker_terms-unit_first p (length es) positive i w.terms h.canonical)
+      (IsVector-kronecker_terms p positive ds es (unit_vector (generator_degree ds i) i) w (IsVector-unit_vector p ds above i inside) h)
+
+  -- a vector scattered
+  pub IsVector-scattered : (k : ℕ) (v : Vector) → k < length es → IsVector p ds v → IsVector p (degree_sums ds es) (record { degree = v.degree +ℤ generator_degree es k; terms = scattered (length es) k v.terms })
+  IsVector-scattered k v inside h =
+      let positive : 0 < p = omega arith in
+      subst (λ ts. IsVector p (degree_sums ds es) (record { degree = v.degree +ℤ generator_degree es k; terms = ts })) (kronecker_terms-unit p (length es) positive k (omega arith) v.terms h.canonical)
+      (IsVector-kronecker_terms p positive ds es v (unit_vector (generator_degree es k) k) h (IsVector-unit_vector p es above k inside))

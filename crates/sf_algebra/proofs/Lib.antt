@@ -35,6 +35,8 @@ pub mod KroneckerUnits
 pub mod KroneckerIdentities
 pub mod KroneckerEntries
 pub mod KroneckerTransposes
+pub mod KroneckerFactors
+pub mod KroneckerSums
 pub mod Residues
 pub mod Primes
 pub mod Inverses

@@ -1,6 +1,7 @@
 -- Parts of a matrix: their entries, and parts of parts, of stacks and of transposes.
 use Rattle.std.proofs.Common.{◌≡◌, refl, ℕ, ◌+◌, ◌-◌, ◌<◌, ◌≤◌, List, [], map, length, drop, slice_range, neg_ℤ, sym, ap, ◌∙◌, inl, inr, arith, add_assoc, length-take}
 use Rattle.std.proofs.lemmas.Bool.{cases_lt}
+use Rattle.std.proofs.lemmas.List.{map-append}
 use Rattle.sf_algebra.specs.Matrices.{Matrix, row_degrees, IsMatrix}
 use Rattle.sf_algebra.specs.MatrixOperations.{row_at, part, part_terms, stacked, transposed}
 use Rattle.sf_algebra.specs.Terms.{Term, IsCanonical}
@@ -9,7 +10,7 @@ use Rattle.sf_algebra.proofs.Lists.{AllByRecursion-weaken}
 use Rattle.sf_algebra.proofs.MatrixRows.{with_terms, row_at-drop, row_at-take, same_matrices}
 use Rattle.sf_algebra.proofs.PartTerms.{entry-part_terms, IsWithin-part_terms, part_terms-whole, IsCanonical-part_terms, IsVector-part_terms}
 use Rattle.sf_algebra.proofs.Positions.{same_from_entries}
-use Rattle.sf_algebra.proofs.Ranges.{AllByRecursion-slice_range, slice_range-map, slice_range-whole, slice_range-first, slice_range-second, slice_range-slice_range}
+use Rattle.sf_algebra.proofs.Ranges.{AllByRecursion-slice_range, slice_range-map, slice_range-whole, slice_range-first, slice_range-second, slice_range-slice_range, slice_range-append}
 use Rattle.sf_algebra.proofs.Rows.{row_at-map, row_at-past}
 use Rattle.sf_algebra.proofs.Stacks.{AllByRecursion-map, degrees-with_terms, with_terms-with_terms, with_terms-each, with_terms-same}
 use Rattle.sf_algebra.proofs.Transposes.{IsMatrix-transposed, entry-outside, entry-transposed, row_degrees-transposed}
@@ -96,6 +97,19 @@ part-stacked_second a b moduli targets h =
       rows = with_terms (part_terms 0 (length b.target)) ((slice_range-second a.rows b.rows (length a.rows) (length a.rows + length b.rows) refl (omega arith) ∙ sym (slice_range-whole b.rows (length b.rows) (omega arith))) i);
     })
     ∙ part-whole b h
+
+-- rows of a matrix, and the rows behind them
+pub stacked-parts : (r0 r1 r2 c0 c1 : ℕ) (m : Matrix) → r0 ≤ r1 → r1 ≤ r2 → stacked (part r0 r1 c0 c1 m) (part r1 r2 c0 c1 m) ≡ part r0 r2 c0 c1 m
+stacked-parts r0 r1 r2 c0 c1 m first second =
+    let rows = sym (map-append (λ (v : Vector). record { degree = v.degree; terms = part_terms c0 c1 v.terms }) (slice_range m.rows r0 r1) (slice_range m.rows r1 r2))
+    ∙ ap (with_terms (part_terms c0 c1)) (slice_range-append m.rows r0 r1 r2 first second) in
+    λ i. record { modulus = m.modulus; target = slice_range m.target c0 c1; rows = rows i }
+
+-- rows in all columns
+pub rows-part : (r0 r1 : ℕ) (m : Matrix) → IsMatrix m → (part r0 r1 0 (length m.target) m).rows ≡ slice_range m.rows r0 r1
+rows-part r0 r1 m h =
+    with_terms-same (part_terms 0 (length m.target)) (slice_range m.rows r0 r1)
+    (AllByRecursion-weaken _ _ (λ v k. part_terms-whole (length m.target) v.terms (AllByRecursion-weaken _ _ (λ t e. e.0) v.terms k.homogeneous)) (slice_range m.rows r0 r1) (AllByRecursion-slice_range _ m.rows r0 r1 h))
 
 -- the transpose of a part is the part of the transpose, rows and columns exchanged
 pub transposed-part : (r0 r1 c0 c1 : ℕ) (m : Matrix) → IsMatrix m → transposed (part r0 r1 c0 c1 m) ≡ part c0 c1 r0 r1 (transposed m)

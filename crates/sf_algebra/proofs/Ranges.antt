@@ -1,5 +1,5 @@
 -- Ranges of lists.
-use Rattle.std.proofs.Common.{◌≡◌, ℕ, zero, suc, ◌+◌, ◌-◌, ◌≤◌, List, [], ◌∷◌, ◌++◌, map, length, take, drop, slice_range, sym, ap, ◌∙◌, inl, inr, arith}
+use Rattle.std.proofs.Common.{◌≡◌, ℕ, zero, suc, ◌+◌, ◌-◌, ◌≤◌, List, [], ◌∷◌, ◌++◌, map, length, take, drop, slice_range, sym, ap, ◌∙◌, inl, inr, arith, take-add}
 use Rattle.std.specs.List.{AllByRecursion}
 use Rattle.std.proofs.lemmas.Bool.{cases_lt}
 use Rattle.std.proofs.lemmas.List.{take-map, drop-map, take_all, take_at, drop_at, take-take, drop-drop, drop-take}
@@ -48,3 +48,13 @@ slice_range-slice_range xs from to a b inside =
           ∙ ap (take (b - a)) (drop-drop a from xs)
           ∙ ap (λ n. take n (drop (from + a) xs)) count
     ]
+
+-- one range and the next
+pub slice_range-append : {X : Type 0} (xs : List X) (a b c : ℕ) → a ≤ b → b ≤ c → slice_range xs a b ++ slice_range xs b c ≡ slice_range xs a c
+slice_range-append xs a b c first second =
+    let start : b ≡ a + (b - a) = omega arith in
+    let size : (b - a) + (c - b) ≡ c - a = omega arith in
+    ap (λ n. take (b - a) (drop a xs) ++ take (c - b) (drop n xs)) start
+    ∙ ap (λ l. take (b - a) (drop a xs) ++ take (c - b) l) (sym (drop-drop (b - a) a xs))
+    ∙ sym (take-add (b - a) (c - b) (drop a xs))
+    ∙ ap (λ n. take n (drop a xs)) size

@@ -3,7 +3,8 @@ use Rattle.std.proofs.Common.{◌≡◌, refl, List, [], ◌∷◌, ◌++◌, ma
 use Rattle.std.specs.List.{AllByRecursion}
 use Rattle.std.proofs.lemmas.List.{map-append}
 use Rattle.sf_algebra.specs.Matrices.{Matrix, row_degrees, IsMatrix}
-use Rattle.sf_algebra.specs.MatrixOperations.{stacked}
+use Rattle.sf_algebra.specs.MatrixOperations.{negated, stacked}
+use Rattle.sf_algebra.specs.Multiples.{negative}
 use Rattle.sf_algebra.specs.Terms.{Term}
 use Rattle.sf_algebra.specs.Vectors.{Place, Vector, IsVector}
 use Rattle.sf_algebra.proofs.Lists.{AllByRecursion-append}
@@ -47,3 +48,9 @@ stacked-assoc a b c = λ i. record { modulus = a.modulus; target = a.target; row
 -- no rows below
 pub stacked-nil : (a b : Matrix) → b.rows ≡ [] → stacked a b ≡ a
 stacked-nil a b none = λ i. record { modulus = a.modulus; target = a.target; rows = (ap (λ vs. a.rows ++ vs) none ∙ append-nil a.rows) i }
+
+pub negated-stacked : (a b : Matrix) → a.modulus ≡ b.modulus → negated (stacked a b) ≡ stacked (negated a) (negated b)
+negated-stacked a b moduli =
+    let rows = map-append (λ (v : Vector). record { degree = v.degree; terms = negative a.modulus v.terms }) a.rows b.rows
+    ∙ ap (λ p. with_terms (negative a.modulus) a.rows ++ with_terms (negative p) b.rows) moduli in
+    λ i. record { modulus = a.modulus; target = a.target; rows = rows i }

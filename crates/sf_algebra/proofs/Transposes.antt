@@ -9,9 +9,11 @@ use Rattle.sf_algebra.specs.Matrices.{Matrix, row_degrees, IsMatrix}
 use Rattle.sf_algebra.specs.MatrixOperations.{row_at, column_terms, column_rows, transposed}
 use Rattle.sf_algebra.specs.Terms.{Term}
 use Rattle.sf_algebra.specs.Vectors.{Place, Vector, entry, IsVector}
-use Rattle.sf_algebra.proofs.Columns.{entry-column_terms, IsVector-column}
+use Rattle.sf_algebra.proofs.Columns.{entry-column_terms, IsDescending-column_terms, IsVector-column}
+use Rattle.sf_algebra.proofs.Lists.{AllByRecursion-weaken}
+use Rattle.sf_algebra.proofs.Positions.{same_from_entries}
 use Rattle.sf_algebra.proofs.Entries.{entry-elsewhere}
-use Rattle.sf_algebra.proofs.MatrixRows.{IsWithin, IsWithin-matrix_row, same_matrices}
+use Rattle.sf_algebra.proofs.MatrixRows.{IsWithin, IsCanonical-matrix_row, IsWithin-matrix_row, same_matrices}
 use Rattle.sf_algebra.proofs.Rows.{row_at-past}
 
 pub degrees-column_rows : (rows : List Vector) (j : ℕ) (ds : List ℤ) → map (λ (v : Vector). v.degree) (column_rows rows j ds) ≡ map neg_ℤ ds
@@ -75,3 +77,10 @@ transposed-transposed m h =
     (ap (map neg_ℤ) (row_degrees-transposed m) ∙ map-neg-neg m.target)
     (row_degrees-transposed (transposed m) ∙ map-neg-neg (row_degrees m))
     (λ i j. entry-transposed (transposed m) k j i ∙ entry-transposed m h i j)
+
+-- a row is the list of its entries, which are those of the transpose's rows
+pub row_at-entries : (m : Matrix) → IsMatrix m → (i : ℕ) → row_at m.rows i ≡ column_terms i 0 (transposed m).rows
+row_at-entries m h i =
+    let rows = AllByRecursion-weaken _ _ (λ v k. k.canonical.descending) (transposed m).rows (IsMatrix-transposed m h) in
+    same_from_entries _ _ (IsCanonical-matrix_row m.modulus m.target m.rows h i).descending (IsDescending-column_terms i 0 (transposed m).rows rows)
+    (λ j. sym (entry-column_terms i 0 (transposed m).rows j j (omega arith) ∙ entry-transposed m h i j))

@@ -1,7 +1,7 @@
 -- What holds of the Kronecker product of graded matrices: the tensor product of the maps. (Any textbook of linear algebra.)
-use Rattle.std.specs.Prelude.{◌≡◌, ℕ, ◌+◌, ◌*◌, ◌<◌, List, length, ℤ}
+use Rattle.std.specs.Prelude.{◌≡◌, ◌==◌, if◌then◌else◌, ℕ, ◌+◌, ◌*◌, ◌<◌, List, [], ◌∷◌, length, ℤ, pos}
 use Rattle.sf_algebra.specs.Matrices.{Matrix, row_degrees, IsMatrix}
-use Rattle.sf_algebra.specs.MatrixOperations.{row_at, identity, matrix_product, transposed, moved, degree_sums, kronecker}
+use Rattle.sf_algebra.specs.MatrixOperations.{row_at, identity, stacked, matrix_product, negated, transposed, moved, degree_sums, kronecker}
 use Rattle.sf_algebra.specs.MatrixProductLaws.{IsComposable}
 use Rattle.sf_algebra.specs.Polynomials.{polynomial_product}
 use Rattle.sf_algebra.specs.Vectors.{entry}
@@ -24,6 +24,16 @@ RepeatsSecondFactor =
     (degrees : List ℤ) (b : Matrix) → 0 < b.modulus → IsMatrix b → (i k : ℕ) → i < length degrees → k < length b.rows
     → row_at (kronecker (identity b.modulus degrees) b).rows (i * length b.rows + k) ≡ moved (i * length b.target) (row_at b.rows k)
 
+-- with an identity as the second factor, the entries of the first stand where the identity has its ones
+abbrev pub SpreadsFirstFactor : Type 0
+SpreadsFirstFactor =
+    (a : Matrix) (degrees : List ℤ) → 1 < a.modulus → IsMatrix a → (i k j l : ℕ) → k < length degrees → l < length degrees
+    → entry (j * length degrees + l) (row_at (kronecker a (identity a.modulus degrees)).rows (i * length degrees + k)) ≡ (if k == l then entry j (row_at a.rows i) else [])
+
+-- the identity of the ring, the free module with one generator of degree 0, may be left out
+abbrev pub LeavesOutRing : Type 0
+LeavesOutRing = (b : Matrix) → 0 < b.modulus → IsMatrix b → kronecker (identity b.modulus (pos 0 ∷ [])) b ≡ b
+
 -- identities give an identity
 abbrev pub KeepsIdentities : Type 0
 KeepsIdentities = (p : ℕ) → 1 < p → (ds es : List ℤ) → kronecker (identity p ds) (identity p es) ≡ identity p (degree_sums ds es)
@@ -39,3 +49,14 @@ abbrev pub KeepsTransposes : Type 0
 KeepsTransposes =
     (a b : Matrix) → 0 < a.modulus → a.modulus ≡ b.modulus → IsMatrix a → IsMatrix b
     → transposed (kronecker a b) ≡ kronecker (transposed a) (transposed b)
+
+-- a stack as the first factor gives a stack
+abbrev pub KeepsStacks : Type 0
+KeepsStacks = (a b c : Matrix) → a.modulus ≡ b.modulus → kronecker (stacked a b) c ≡ stacked (kronecker a c) (kronecker b c)
+
+-- the negative of the first factor, or of the second, gives the negative
+abbrev pub TakesFirstNegative : Type 0
+TakesFirstNegative = (a b : Matrix) → 0 < a.modulus → IsMatrix a → kronecker (negated a) b ≡ negated (kronecker a b)
+
+abbrev pub TakesSecondNegative : Type 0
+TakesSecondNegative = (a b : Matrix) → 0 < a.modulus → a.modulus ≡ b.modulus → IsMatrix b → kronecker a (negated b) ≡ negated (kronecker a b)

@@ -1,7 +1,7 @@
 -- What holds of the rows of one graded matrix above those of another. (Any textbook of linear algebra.)
-use Rattle.std.specs.Prelude.{◌≡◌, ◌+◌, ◌++◌, length}
+use Rattle.std.specs.Prelude.{◌≡◌, ℕ, ◌≤◌, ◌+◌, ◌++◌, length}
 use Rattle.sf_algebra.specs.Matrices.{Matrix, row_degrees, IsMatrix}
-use Rattle.sf_algebra.specs.MatrixOperations.{matrix_product, stacked, part}
+use Rattle.sf_algebra.specs.MatrixOperations.{matrix_product, negated, stacked, part}
 
 -- matrices over one free module are stacked to a matrix
 abbrev pub HasMatrixStacks : Type 0
@@ -19,9 +19,18 @@ HasLastRows =
     (a b : Matrix) → a.modulus ≡ b.modulus → a.target ≡ b.target → IsMatrix b
     → part (length a.rows) (length a.rows + length b.rows) 0 (length b.target) (stacked a b) ≡ b
 
+-- rows of a matrix and the rows behind them are stacked to a part
+abbrev pub StacksParts : Type 0
+StacksParts =
+    (r0 r1 r2 c0 c1 : ℕ) (m : Matrix) → r0 ≤ r1 → r1 ≤ r2 → stacked (part r0 r1 c0 c1 m) (part r1 r2 c0 c1 m) ≡ part r0 r2 c0 c1 m
+
 abbrev pub HasAssociativeStacks : Type 0
 HasAssociativeStacks = (a b c : Matrix) → stacked (stacked a b) c ≡ stacked a (stacked b c)
 
 -- a stack times a matrix is the stack of the products
 abbrev pub MultipliesStacks : Type 0
 MultipliesStacks = (a b n : Matrix) → a.modulus ≡ b.modulus → matrix_product (stacked a b) n ≡ stacked (matrix_product a n) (matrix_product b n)
+
+-- the negative of a stack is the stack of the negatives
+abbrev pub NegatesStacks : Type 0
+NegatesStacks = (a b : Matrix) → a.modulus ≡ b.modulus → negated (stacked a b) ≡ stacked (negated a) (negated b)

@@ -1,8 +1,8 @@
-ghost use Rattle.sf_algebra.specs.KroneckerLaws.{HasKroneckerProducts, MultipliesEntries, RepeatsSecondFactor, KeepsIdentities, KeepsProducts, KeepsTransposes};
+ghost use Rattle.sf_algebra.specs.KroneckerLaws.{HasKroneckerProducts, MultipliesEntries, RepeatsSecondFactor, SpreadsFirstFactor, LeavesOutRing, KeepsIdentities, KeepsProducts, KeepsTransposes, KeepsStacks, TakesFirstNegative, TakesSecondNegative};
 ghost use Rattle.sf_algebra.specs.MatrixProductLaws.{HasMatrixProducts, MultipliesRowsByColumns, HasMatrixIdentities, LeavesOutFirstIdentity, LeavesOutSecondIdentity, HasAssociativeProducts};
 ghost use Rattle.sf_algebra.specs.NegativeLaws.{HasMatrixNegatives, NegatesEntries, NegatesBack, NegatesWithFirstFactor, NegatesWithSecondFactor, TransposesNegatives};
 ghost use Rattle.sf_algebra.specs.PartLaws.{HasMatrixParts, PicksEntries, HasWholeParts, HasPartsOfParts, MultipliesParts, TransposesParts};
-ghost use Rattle.sf_algebra.specs.StackLaws.{HasMatrixStacks, HasFirstRows, HasLastRows, HasAssociativeStacks, MultipliesStacks};
+ghost use Rattle.sf_algebra.specs.StackLaws.{HasMatrixStacks, HasFirstRows, HasLastRows, StacksParts, HasAssociativeStacks, MultipliesStacks, NegatesStacks};
 ghost use Rattle.sf_algebra.specs.TransposeLaws.{HasMatrixTransposes, ExchangesRowsAndColumns, TransposesBack, TransposesIdentities, ReversesProducts};
 
 /// The graded matrices are the arrows of a category: rows go to columns, and the product is the composition.
@@ -29,8 +29,10 @@ pub fn matrix_stacks()
     ensures matrices { HasMatrixStacks }
     ensures first_rows { HasFirstRows }
     ensures last_rows { HasLastRows }
+    ensures parts { StacksParts }
     ensures associative { HasAssociativeStacks }
     ensures products { MultipliesStacks }
+    ensures negatives { NegatesStacks }
 {}
 
 /// A range of rows in a range of columns.
@@ -58,7 +60,12 @@ pub fn kronecker_products()
     ensures matrices { HasKroneckerProducts }
     ensures entries { MultipliesEntries }
     ensures first_identity { RepeatsSecondFactor }
+    ensures second_identity { SpreadsFirstFactor }
+    ensures ring { LeavesOutRing }
     ensures identities { KeepsIdentities }
     ensures products { KeepsProducts }
     ensures transposes { KeepsTransposes }
+    ensures stacks { KeepsStacks }
+    ensures first_negative { TakesFirstNegative }
+    ensures second_negative { TakesSecondNegative }
 {}

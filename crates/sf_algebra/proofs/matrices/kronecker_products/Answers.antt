@@ -1,7 +1,8 @@
 use Rattle.sf_algebra.proofs.Kronecker.{IsMatrix-kronecker, row_degrees-kronecker}
 use Rattle.sf_algebra.proofs.KroneckerEntries.{entry-kronecker}
-use Rattle.sf_algebra.proofs.KroneckerIdentities.{row_at-kronecker_identity_first, kronecker-identity}
+use Rattle.sf_algebra.proofs.KroneckerIdentities.{entry-kronecker_identity, row_at-kronecker_identity_first, kronecker-identity}
 use Rattle.sf_algebra.proofs.KroneckerProducts.{kronecker-matrix_product}
+use Rattle.sf_algebra.proofs.KroneckerSums.{kronecker-negated, kronecker-negated_first, kronecker-one, kronecker-stacked}
 use Rattle.sf_algebra.proofs.KroneckerTransposes.{transposed-kronecker}
 use Rattle.sf_algebra.proofs.matrices.kronecker_products.Goals as goal
 
@@ -10,7 +11,12 @@ returns c = record {
   matrices = λ a b positive moduli h k. (IsMatrix-kronecker a b positive moduli h k, row_degrees-kronecker a b);
   entries = entry-kronecker;
   first_identity = row_at-kronecker_identity_first;
+  second_identity = entry-kronecker_identity;
+  ring = kronecker-one;
   identities = kronecker-identity;
   products = kronecker-matrix_product;
   transposes = transposed-kronecker;
+  stacks = kronecker-stacked;
+  first_negative = kronecker-negated_first;
+  second_negative = kronecker-negated;
 }
