@@ -12,7 +12,6 @@ mod printing;
 mod raw;
 mod reading;
 mod session;
-mod strategy;
 #[cfg(test)]
 mod tests;
 mod tokens;
@@ -23,4 +22,3 @@ pub use execution::{Status, run};
 pub use heads::{Heads, Ring};
 pub use laws::{front_of_output, one_output, one_reply};
 pub use session::Session;
-pub use strategy::{FirstStrategy, Strategy};

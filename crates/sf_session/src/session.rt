@@ -12,11 +12,11 @@ use crate::placing::{has_shape, knows_rows, place_rows};
 use crate::printing::{print_degrees, print_matrix};
 use crate::raw::RawMatrix;
 use crate::reading::read_line;
-use crate::strategy::Strategy;
 use indexmap::IndexMap;
 use itoa::Buffer;
 use sf_field::OutOfMemory;
 use sf_matrix::{List, Matrix, Name};
+use sf_pairs::Strategy;
 use std::alloc::Global;
 use std::marker::Model;
 

@@ -3,8 +3,8 @@
 ghost use Rattle.std.specs.Prelude.{◌<◌};
 
 use crate::execution::{Status, run};
-use crate::strategy::{FirstStrategy, Strategy};
 use sf_io::{MemSink, MemSource};
+use sf_pairs::{FirstStrategy, Strategy};
 use std::alloc::Global;
 use std::test::Fail;
 

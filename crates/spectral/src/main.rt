@@ -2,7 +2,8 @@
 #![tactic(auto)]
 
 use sf_io::{StdSink, StdSource};
-use sf_session::{FirstStrategy, Status, Strategy, run};
+use sf_pairs::{FirstStrategy, Strategy};
+use sf_session::{Status, run};
 use std::alloc::Global;
 use std::process::ExitCode;
 use std::{env, io};

@@ -1,4 +1,4 @@
-ghost use Rattle.std.specs.Prelude.{◌<◌};
+ghost use Rattle.std.specs.Prelude.{◌≡◌, ◌<◌};
 
 /// Chooses which of the pairs of least degree comes next. Any choice gives the same results.
 pub trait Strategy: Drop {
@@ -16,7 +16,11 @@ pub trait Strategy: Drop {
 pub struct FirstStrategy;
 
 impl Strategy for FirstStrategy {
-    fn choose(&mut self, _count: usize) -> usize {
+    fn choose(&mut self, _count: usize) -> usize
+        requires { 0 < _count }
+        ensures first { result ≡ 0 }
+        ensures below { result < _count }
+    {
         0
     }
 

@@ -1,0 +1,2 @@
+pub mod LeastDegrees
+pub mod Choices

@@ -1,0 +1,54 @@
+-- The product of a part of a polynomial's terms with a polynomial.
+use Rattle.std.proofs.Common.{◌≡◌, ℕ, ◌<◌, ◌≤◌, List, [], ◌∷◌, length, map, take, drop, refl, sym, ◌∙◌, ap, subst, arith}
+use Rattle.std.specs.List.{AllByRecursion}
+use Rattle.std.proofs.lemmas.List.{take-append-drop, take_all}
+use Rattle.sf_algebra.specs.Monomials.{Monomial, product, monomial_cmp}
+use Rattle.sf_algebra.specs.Multiples.{term_product, multiple, combination, combination_terms}
+use Rattle.sf_algebra.specs.Polynomials.{polynomial_product}
+use Rattle.sf_algebra.specs.Primes.{IsPrime}
+use Rattle.sf_algebra.specs.Sums.{add, normal}
+use Rattle.sf_algebra.specs.Terms.{Term, IsCanonical, IsNonzeroResidue}
+use Rattle.sf_algebra.proofs.CombinationLaws.{combination-append, combination-one}
+use Rattle.sf_algebra.proofs.Keys.{monomial_keys}
+use Rattle.sf_algebra.proofs.Lists.{AllByRecursion-front, AllByRecursion-back}
+use Rattle.sf_algebra.proofs.PrimeMultiples.{IsCanonical-map_term_product, multiple-map}
+
+module _ {X : Type 0} (P : X → Type 0) (k : ℕ) (xs : List X) (each : AllByRecursion P xs) where
+  pub AllByRecursion-take : AllByRecursion P (take k xs)
+  AllByRecursion-take = AllByRecursion-front P (take k xs) (drop k xs) (subst (AllByRecursion P) (sym (take-append-drop k xs)) each)
+
+  pub AllByRecursion-drop : AllByRecursion P (drop k xs)
+  AllByRecursion-drop = AllByRecursion-back P (take k xs) (drop k xs) (subst (AllByRecursion P) (sym (take-append-drop k xs)) each)
+
+-- a modulus of which there is a nonzero residue is positive
+pub positive_from_residues : (p : ℕ) (us : List (Term Monomial)) → 0 < length us → AllByRecursion (IsNonzeroResidue p) us → 0 < p
+positive_from_residues p [] some h = absurd (omega arith)
+positive_from_residues p (u ∷ us) some h = omega (arith, h.0.1)
+
+-- no term
+pub polynomial_product-none : (p : ℕ) (v : List (Term Monomial)) → polynomial_product p [] v ≡ []
+unfolding combination combination_terms normal
+polynomial_product-none p v = refl
+
+module _ (p : ℕ) (positive : 0 < p) (v : List (Term Monomial)) where
+  -- one term
+  pub polynomial_product-one_term : (t : Term Monomial) → polynomial_product p (t ∷ []) v ≡ multiple monomial_cmp product p t v
+  polynomial_product-one_term t = combination-one monomial_keys p positive (λ a. a) (λ _. v) t
+
+  -- the halves
+  pub polynomial_product-halves : (k : ℕ) (us : List (Term Monomial)) → polynomial_product p us v ≡ add monomial_cmp p (polynomial_product p (take k us) v) (polynomial_product p (drop k us) v)
+  polynomial_product-halves k us =
+      ap (λ l. polynomial_product p l v) (sym (take-append-drop k us))
+      ∙ combination-append monomial_keys p positive (λ a. a) (λ _. v) (take k us) (drop k us)
+
+-- the products of a term with each of the terms, once a loop has been through all
+module _ (p : ℕ) (t : Term Monomial) (prime : IsPrime p) (nonzero : IsNonzeroResidue p t) (us : List (Term Monomial)) (canonical : IsCanonical monomial_cmp p us) where
+  module _ (i : ℕ) (products : List (Term Monomial)) (all : length us ≤ i) (taken : products ≡ map (term_product product p t) (take i us)) where
+    whole : products ≡ map (term_product product p t) us
+    whole = taken ∙ ap (map (term_product product p t)) (take_all i us all)
+
+    pub multiple-taken : products ≡ multiple monomial_cmp product p t us
+    multiple-taken = whole ∙ sym (multiple-map monomial_keys p t prime nonzero us canonical)
+
+    pub IsCanonical-taken : IsCanonical monomial_cmp p products
+    IsCanonical-taken = subst (IsCanonical monomial_cmp p) (sym whole) (IsCanonical-map_term_product monomial_keys p t prime nonzero us canonical)

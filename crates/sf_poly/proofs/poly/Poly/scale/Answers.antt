@@ -1,0 +1,22 @@
+use Rattle.std.proofs.Common.{◌<◌, sym, ◌∙◌, ap, arith}
+use Rattle.sf_algebra.specs.Monomials.{product, monomial_cmp}
+use Rattle.sf_algebra.specs.Multiples.{multiple}
+use Rattle.sf_algebra.proofs.Keys.{monomial_keys}
+use Rattle.sf_algebra.proofs.MultipleLaws.{multiple-zero}
+use Rattle.sf_poly.specs.Bounds.{MultipleFits}
+use Rattle.sf_poly.specs.Polynomials.{term_of}
+use Rattle.sf_poly.proofs.Leads.{HasRoom-MultipleFits}
+use Rattle.sf_poly.proofs.poly.Poly.scale.Goals as goal
+
+pub returns-then-c-eq0 : goal.returns-then-c-eq0
+returns-then-c-eq0 c =
+    let positive : 0 < c.args.self.now.modulus = omega (arith, c.requires.residue) in
+    let none =
+    ap (λ n. multiple monomial_cmp product c.args.self.now.modulus (term_of c.args.a n) c.args.self.now.terms) c.if-c-eq0.true
+    ∙ multiple-zero monomial_keys c.args.self.now.modulus positive c.args.a c.args.self.now.terms in
+    record { multiple = c.zero.ensures.zero ∙ (λ i. record { modulus = (c.self.view_is i).modulus; terms = sym none i }) }
+
+pub multiple_of_terms-requires-clause-room : goal.multiple_of_terms-requires-clause-room
+multiple_of_terms-requires-clause-room c =
+    let fits : MultipleFits c.args.a c.self.inside.terms.items = rw (ap (λ f. f.terms) c.self.view_is) c.requires.room in
+    rw c.deref.ensures.value (HasRoom-MultipleFits c.args.a _ c.self.invariant.descending fits)

@@ -1,0 +1,14 @@
+//! Polynomials over the residues modulo a prime: canonical lists of terms, with sums and products.
+//!
+//! Contracts see one as the modulus and the list of its terms, in the words of `sf_algebra`.
+#![tactic(auto)]
+
+mod poly;
+mod products;
+mod sums;
+mod term;
+
+pub use poly::Poly;
+
+#[cfg(test)]
+mod tests;
