@@ -39,7 +39,7 @@ TermsFit ts us = AllByRecursion (λ (t : Term Place). MultipleFits t.at.monomial
 
 -- the positions of tensor products with terms over n columns have room
 abbrev pub PositionsFit : ℕ → List (Term Place) → List (Term Place) → Type 0
-PositionsFit n ts us = AllByRecursion (λ (t : Term Place). AllByRecursion (λ (u : Term Place). t.at.position * n + u.at.position < 2 ^ 64) us) ts
+PositionsFit n ts us = AllByRecursion (λ (t : Term Place). (t.at.position * n < 2 ^ 64) × AllByRecursion (λ (u : Term Place). t.at.position * n + u.at.position < 2 ^ 64) us) ts
 
 -- the products of each term of each row with each term of each of the others have room
 abbrev pub KroneckerFits : List Vector → List Vector → Type 0
