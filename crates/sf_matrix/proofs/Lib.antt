@@ -3,3 +3,5 @@ pub mod Assembled
 pub mod Room
 pub mod Entering
 pub mod ColumnVectors
+pub mod Pieces
+pub mod KroneckerBounds

@@ -33,6 +33,10 @@ HasNegative d = neg_ℤ GREATEST_DEGREE ≤ℤ d
 abbrev pub IsDegree : ℤ → Type 0
 IsDegree d = (neg_ℤ (pos 2147483648) ≤ℤ d) × (d ≤ℤ GREATEST_DEGREE)
 
+-- the sums of a degree of the first list and one of the second have room
+abbrev pub SumsFit : List ℤ → List ℤ → Type 0
+SumsFit ds es = AllByRecursion (λ (d : ℤ). AllByRecursion (λ (e : ℤ). IsDegree (d +ℤ e)) es) ds
+
 -- the products of each term of one list with each of another have room
 abbrev pub TermsFit : List (Term Place) → List (Term Place) → Type 0
 TermsFit ts us = AllByRecursion (λ (t : Term Place). MultipleFits t.at.monomial us) ts

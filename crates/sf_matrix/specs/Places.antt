@@ -1,5 +1,5 @@
 -- Where a term stands, and the term, written by its generator, its monomial and its coefficient.
-use Rattle.std.specs.Prelude.{ℕ, List, map, ◌+ℤ◌}
+use Rattle.std.specs.Prelude.{ℕ, ◌+ℤ◌}
 use Rattle.sf_algebra.specs.MatrixOperations.{kronecker_terms}
 use Rattle.sf_algebra.specs.Monomials.{Monomial}
 use Rattle.sf_algebra.specs.Terms.{Term}
@@ -17,6 +17,6 @@ term_of position a c = record { at = place_of position a; coefficient = c }
 abbrev pub factor_of : Term Place → Term Monomial
 factor_of t = record { at = t.at.monomial; coefficient = t.coefficient }
 
--- the tensor products of a vector with each of some vectors over n columns
-abbrev pub kronecker_rows : ℕ → ℕ → Vector → List Vector → List Vector
-kronecker_rows p n v ws = map (λ (w : Vector). record { degree = v.degree +ℤ w.degree; terms = kronecker_terms p n v.terms w.terms }) ws
+-- the tensor product of a vector with a vector over n columns
+abbrev pub kronecker_vector : ℕ → ℕ → Vector → Vector → Vector
+kronecker_vector p n v w = record { degree = v.degree +ℤ w.degree; terms = kronecker_terms p n v.terms w.terms }

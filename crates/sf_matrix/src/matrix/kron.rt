@@ -5,8 +5,8 @@ ghost use Rattle.sf_algebra.specs.MatrixOperations.{moved, degree_sums, kronecke
 ghost use Rattle.sf_algebra.specs.Multiples.{place_product, term_product};
 ghost use Rattle.sf_algebra.specs.Terms.{IsCanonical, IsNonzeroResidue};
 ghost use Rattle.sf_algebra.specs.Vectors.{place_cmp};
-ghost use Rattle.sf_matrix.specs.Bounds.{IsDegree, MultipleFits, TermsFit, PositionsFit, KroneckerFits};
-ghost use Rattle.sf_matrix.specs.Places.{factor_of, kronecker_rows};
+ghost use Rattle.sf_matrix.specs.Bounds.{IsDegree, SumsFit, MultipleFits, TermsFit, PositionsFit, KroneckerFits};
+ghost use Rattle.sf_matrix.specs.Places.{factor_of, kronecker_vector};
 
 use crate::free::Free;
 use crate::list::List;
@@ -24,8 +24,8 @@ impl Matrix {
     pub fn kron(&self, alloc: Global, other: &Matrix) -> Result<Matrix, OutOfMemory>
         requires modulus { other.now.modulus ≡ self.now.modulus }
         requires columns { length self.now.target * length other.now.target < 2 ^ 64 }
-        requires target { AllByRecursion IsDegree (degree_sums self.now.target other.now.target) }
-        requires degrees { AllByRecursion IsDegree (degree_sums (row_degrees self.now) (row_degrees other.now)) }
+        requires target { SumsFit self.now.target other.now.target }
+        requires degrees { SumsFit (row_degrees self.now) (row_degrees other.now) }
         requires room { KroneckerFits self.now.rows other.now.rows }
         ensures kronecker { IfOk result (λ m. m ≡ kronecker self.now other.now) }
     {
@@ -59,16 +59,32 @@ fn push_rows(
     requires degrees { AllByRecursion (λ w. IsDegree (left.now.degree +ℤ w.degree)) others.now }
     requires room { AllByRecursion (λ w. TermsFit left.now.terms w.terms) others.now }
     requires positions { AllByRecursion (λ w. PositionsFit columns left.now.terms w.terms) others.now }
-    ensures ok { OnOk result (rows.new.items ≡ rows.old.items ++ kronecker_rows modulus columns left.now others.now) }
+    ensures ok { OnOk result (rows.new.items ≡ rows.old.items ++ map (kronecker_vector modulus columns left.now) others.now) }
 {
     for right in others {
-        let terms = kronecker_terms(alloc, modulus, columns, &left.terms, &right.terms)?;
-        rows.push(Vector {
-            degree: degree_sum(left.degree, right.degree),
-            terms,
-        })?;
+        rows.push(kronecker_vector(alloc, modulus, columns, left, right)?)?;
     }
     Ok(())
+}
+
+/// The tensor product of a vector with a vector over so many columns.
+fn kronecker_vector(
+    alloc: Global,
+    modulus: Modulus,
+    columns: u64,
+    left: &Vector,
+    right: &Vector,
+) -> Result<Vector, OutOfMemory>
+    requires left { AllByRecursion (IsNonzeroResidue modulus) left.now.terms }
+    requires right { AllByRecursion (IsNonzeroResidue modulus) right.now.terms }
+    requires degree { IsDegree (left.now.degree +ℤ right.now.degree) }
+    requires room { TermsFit left.now.terms right.now.terms }
+    requires positions { PositionsFit columns left.now.terms right.now.terms }
+    ensures { IfOk result (λ v. v ≡ kronecker_vector modulus columns left.now right.now) }
+{
+    let terms = kronecker_terms(alloc, modulus, columns, &left.terms, &right.terms)?;
+    let degree = degree_sum(left.degree, right.degree);
+    Ok(Vector { degree, terms })
 }
 
 /// The tensor product of the terms of a vector with those of a vector over so many columns.
@@ -121,7 +137,7 @@ fn push_moved_multiple(
 
 /// The sums of a degree of the first list and one of the second.
 fn degree_sums(alloc: Global, first: &[i32], second: &[i32]) -> Result<List<i32>, OutOfMemory>
-    requires { AllByRecursion IsDegree (degree_sums first.now second.now) }
+    requires { SumsFit first.now second.now }
     ensures { IfOk result (λ l. l ≡ degree_sums first.now second.now) }
 {
     let mut sums = List::new(alloc);

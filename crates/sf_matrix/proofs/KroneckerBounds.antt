@@ -1,0 +1,38 @@
+-- Tensor products of rows of matrices stand within bounds.
+use Rattle.std.proofs.Common.{◌≡◌, ℕ, suc, ◌+◌, ◌*◌, ◌<◌, ◌≤◌, List, length, map, ℤ, ◌+ℤ◌, arith}
+use Rattle.std.proofs.Math.Nat.{mul-le-mul}
+use Rattle.std.specs.List.{AllByRecursion}
+use Rattle.sf_algebra.specs.Terms.{Term}
+use Rattle.sf_algebra.specs.Vectors.{Place, Vector, IsVector}
+use Rattle.sf_algebra.proofs.Lists.{AllByRecursion-weaken}
+use Rattle.sf_matrix.specs.Bounds.{IsDegree, SumsFit, PositionsFit}
+use Rattle.sf_matrix.proofs.Pieces.{AllByRecursion-unmap}
+
+-- a position of the product, by the positions of its factors
+pair_below : (i m j n bound : ℕ) → i < m → j < n → m * n < bound → i * n + j < bound
+pair_below i m j n bound first second size =
+    let rows : suc i * n ≤ m * n = mul-le-mul first (let same : n ≤ n = omega arith in same) in
+    omega arith
+
+first_below : (i m n bound : ℕ) → i < m → m * n < bound → i * n < bound
+first_below i m n bound first size =
+    let rows : suc i * n ≤ m * n = mul-le-mul first (let same : n ≤ n = omega arith in same) in
+    omega arith
+
+-- the positions of the tensor product of two rows
+pub PositionsFit-vectors : (p : ℕ) (ds es : List ℤ) (v w : Vector) → length ds * length es < 18446744073709551616 → IsVector p ds v → IsVector p es w → PositionsFit (length es) v.terms w.terms
+PositionsFit-vectors p ds es v w size h k =
+    AllByRecursion-weaken _ _
+    (λ t e.
+      (
+        first_below t.at.position (length ds) (length es) _ e.0 size,
+        AllByRecursion-weaken _ _ (λ u f. pair_below t.at.position (length ds) u.at.position (length es) _ e.0 f.0 size) w.terms k.homogeneous,
+      )
+    )
+    v.terms h.homogeneous
+
+-- sums of the degrees of rows, row by row
+pub SumsFit-rows : (rows others : List Vector) → SumsFit (map (λ (v : Vector). v.degree) rows) (map (λ (v : Vector). v.degree) others) → AllByRecursion (λ (v : Vector). AllByRecursion (λ (w : Vector). IsDegree (v.degree +ℤ w.degree)) others) rows
+SumsFit-rows rows others h =
+    AllByRecursion-weaken _ _ (λ v e. AllByRecursion-unmap _ (λ (w : Vector). w.degree) others e) rows
+    (AllByRecursion-unmap _ (λ (v : Vector). v.degree) rows h)
