@@ -1,5 +1,6 @@
-ghost use Rattle.std.specs.Prelude.{◌≡◌, ◌≤◌, length, slice_range, IfOk};
+ghost use Rattle.std.specs.Prelude.{◌≡◌, ◌≤◌, length, map, IfOk};
 ghost use Rattle.sf_algebra.specs.MatrixOperations.{part_terms, part};
+ghost use Rattle.sf_matrix.specs.Places.{vector_between};
 
 use crate::free::Free;
 use crate::list::List;
@@ -24,14 +25,7 @@ impl Matrix {
         requires columns_end { c1 ≤ length self.now.target }
         ensures part { IfOk result (λ m. m ≡ part r0 r1 c0 c1 self.now) }
     {
-        let mut rows = Vec::with_capacity(alloc, r1 - r0)?;
-        for row in &self.rows[r0..r1] {
-            let terms = terms_between(alloc, c0 as u64, c1 as u64, &row.terms)?;
-            rows.push(Vector {
-                degree: row.degree,
-                terms,
-            })?;
-        }
+        let rows = rows_between(alloc, c0 as u64, c1 as u64, &self.rows[r0..r1])?;
         let degrees = List::from_slice(alloc, &self.target.degrees.as_slice()[c0..c1])?;
         Ok(Matrix {
             modulus: self.modulus,
@@ -39,6 +33,38 @@ impl Matrix {
             rows,
         })
     }
+}
+
+/// The rows' terms at the positions from `from` to before `to`, counted from `from`.
+fn rows_between(
+    alloc: Global,
+    from: u64,
+    to: u64,
+    rows: &[Vector],
+) -> Result<Vec<Vector>, OutOfMemory>
+    ensures { IfOk result (λ v. v.items ≡ map (vector_between from to) rows.now) }
+{
+    let mut between = Vec::with_capacity(alloc, rows.len())?;
+    for row in rows {
+        between.push(vector_between(alloc, from, to, row)?)?;
+    }
+    Ok(between)
+}
+
+/// A row's terms at these positions.
+fn vector_between(
+    alloc: Global,
+    from: u64,
+    to: u64,
+    row: &Vector,
+) -> Result<Vector, OutOfMemory>
+    ensures { IfOk result (λ v. v ≡ vector_between from to row.now) }
+{
+    let terms = terms_between(alloc, from, to, &row.terms)?;
+    Ok(Vector {
+        degree: row.degree,
+        terms,
+    })
 }
 
 /// The terms at the positions from `from` to before `to`, counted from `from`.
