@@ -23,11 +23,10 @@ first_below i m n bound first size =
 pub PositionsFit-vectors : (p : ℕ) (ds es : List ℤ) (v w : Vector) → length ds * length es < 18446744073709551616 → IsVector p ds v → IsVector p es w → PositionsFit (length es) v.terms w.terms
 PositionsFit-vectors p ds es v w size h k =
     AllByRecursion-weaken _ _
-    (λ t e.
-      (
-        first_below t.at.position (length ds) (length es) _ e.0 size,
-        AllByRecursion-weaken _ _ (λ u f. pair_below t.at.position (length ds) u.at.position (length es) _ e.0 f.0 size) w.terms k.homogeneous,
-      )
+    (λ t e. (
+      first_below t.at.position (length ds) (length es) _ e.0 size,
+      AllByRecursion-weaken _ _ (λ u f. pair_below t.at.position (length ds) u.at.position (length es) _ e.0 f.0 size) w.terms k.homogeneous,
+    )
     )
     v.terms h.homogeneous
 

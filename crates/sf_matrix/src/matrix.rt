@@ -2,6 +2,7 @@ ghost use Rattle.std.specs.Prelude.{◌≡◌, ◌<◌, [], ◌∷◌, ◌++◌,
 ghost use Rattle.sf_algebra.specs.Vectors.{IsVector};
 ghost use Rattle.sf_algebra.specs.Matrices.{IsMatrix};
 
+mod equality;
 mod identity;
 mod kron;
 mod negate;

@@ -5,6 +5,8 @@ ghost use Rattle.sf_algebra.specs.Terms.{IsDescending};
 ghost use Rattle.sf_algebra.specs.Vectors.{place_cmp};
 ghost use Rattle.sf_matrix.specs.Places.{place_of, term_of};
 
+mod equality;
+
 use sf_field::{Copied, OutOfMemory};
 use sf_mono::Mono;
 use std::alloc::Global;

@@ -52,12 +52,7 @@ fn rows_between(
 }
 
 /// A row's terms at these positions.
-fn vector_between(
-    alloc: Global,
-    from: u64,
-    to: u64,
-    row: &Vector,
-) -> Result<Vector, OutOfMemory>
+fn vector_between(alloc: Global, from: u64, to: u64, row: &Vector) -> Result<Vector, OutOfMemory>
     ensures { IfOk result (λ v. v ≡ vector_between from to row.now) }
 {
     let terms = terms_between(alloc, from, to, &row.terms)?;
