@@ -54,9 +54,10 @@ KeepsTransposes =
 abbrev pub KeepsStacks : Type 0
 KeepsStacks = (a b c : Matrix) → a.modulus ≡ b.modulus → kronecker (stacked a b) c ≡ stacked (kronecker a c) (kronecker b c)
 
--- the negative of the first factor, or of the second, gives the negative
+-- the negative of the first factor gives the negative
 abbrev pub TakesFirstNegative : Type 0
 TakesFirstNegative = (a b : Matrix) → 0 < a.modulus → IsMatrix a → kronecker (negated a) b ≡ negated (kronecker a b)
 
+-- the negative of the second factor gives the negative
 abbrev pub TakesSecondNegative : Type 0
 TakesSecondNegative = (a b : Matrix) → 0 < a.modulus → a.modulus ≡ b.modulus → IsMatrix b → kronecker a (negated b) ≡ negated (kronecker a b)

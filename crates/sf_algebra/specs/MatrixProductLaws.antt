@@ -25,10 +25,11 @@ MultipliesRowsByColumns =
 abbrev pub HasMatrixIdentities : Type 0
 HasMatrixIdentities = (p : ℕ) → 1 < p → (degrees : List ℤ) → IsMatrix (identity p degrees) × (row_degrees (identity p degrees) ≡ degrees)
 
--- an identity may be left out, as the first factor and as the second
+-- an identity before a matrix may be left out
 abbrev pub LeavesOutFirstIdentity : Type 0
 LeavesOutFirstIdentity = (m : Matrix) → 0 < m.modulus → IsMatrix m → matrix_product (identity m.modulus (row_degrees m)) m ≡ m
 
+-- an identity behind a matrix may be left out
 abbrev pub LeavesOutSecondIdentity : Type 0
 LeavesOutSecondIdentity = (m : Matrix) → 0 < m.modulus → IsMatrix m → matrix_product m (identity m.modulus m.target) ≡ m
 

@@ -17,12 +17,14 @@ NegatesEntries = (m : Matrix) (i j : ℕ) → entry j (row_at (negated m).rows i
 abbrev pub NegatesBack : Type 0
 NegatesBack = (m : Matrix) → IsMatrix m → negated (negated m) ≡ m
 
--- the negative of the first factor, or of the second, gives the negative of the product
+-- the negative of the first factor gives the negative of the product
 abbrev pub NegatesWithFirstFactor : Type 0
 NegatesWithFirstFactor = (a b : Matrix) → 0 < a.modulus → IsMatrix a → matrix_product (negated a) b ≡ negated (matrix_product a b)
 
+-- the negative of the second factor gives the negative of the product
 abbrev pub NegatesWithSecondFactor : Type 0
 NegatesWithSecondFactor = (a b : Matrix) → 0 < a.modulus → a.modulus ≡ b.modulus → IsMatrix b → matrix_product a (negated b) ≡ negated (matrix_product a b)
 
+-- the transpose of a negative is the negative of the transpose
 abbrev pub TransposesNegatives : Type 0
 TransposesNegatives = (m : Matrix) → IsMatrix m → transposed (negated m) ≡ negated (transposed m)

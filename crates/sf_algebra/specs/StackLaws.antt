@@ -24,6 +24,7 @@ abbrev pub StacksParts : Type 0
 StacksParts =
     (r0 r1 r2 c0 c1 : ℕ) (m : Matrix) → r0 ≤ r1 → r1 ≤ r2 → stacked (part r0 r1 c0 c1 m) (part r1 r2 c0 c1 m) ≡ part r0 r2 c0 c1 m
 
+-- three matrices may be stacked from either side
 abbrev pub HasAssociativeStacks : Type 0
 HasAssociativeStacks = (a b c : Matrix) → stacked (stacked a b) c ≡ stacked a (stacked b c)
 

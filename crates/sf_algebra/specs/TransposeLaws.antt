@@ -17,6 +17,7 @@ ExchangesRowsAndColumns = (m : Matrix) → IsMatrix m → (i j : ℕ) → entry 
 abbrev pub TransposesBack : Type 0
 TransposesBack = (m : Matrix) → IsMatrix m → transposed (transposed m) ≡ m
 
+-- the transpose of an identity is the identity of the negatives of the degrees
 abbrev pub TransposesIdentities : Type 0
 TransposesIdentities = (p : ℕ) → 1 < p → (degrees : List ℤ) → transposed (identity p degrees) ≡ identity p (map neg_ℤ degrees)
 
