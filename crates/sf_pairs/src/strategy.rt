@@ -16,10 +16,9 @@ pub trait Strategy: Drop {
 pub struct FirstStrategy;
 
 impl Strategy for FirstStrategy {
-    fn choose(&mut self, _count: usize) -> usize
-        requires { 0 < _count }
-        ensures first { result ≡ 0 }
-        ensures below { result < _count }
+    fn choose(&mut self, count: usize) -> usize
+        requires { 0 < count }
+        ensures { result ≡ 0 }
     {
         0
     }

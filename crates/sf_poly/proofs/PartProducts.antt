@@ -10,15 +10,7 @@ use Rattle.sf_algebra.specs.Sums.{add, normal}
 use Rattle.sf_algebra.specs.Terms.{Term, IsCanonical, IsNonzeroResidue}
 use Rattle.sf_algebra.proofs.CombinationLaws.{combination-append, combination-one}
 use Rattle.sf_algebra.proofs.Keys.{monomial_keys}
-use Rattle.sf_algebra.proofs.Lists.{AllByRecursion-front, AllByRecursion-back}
 use Rattle.sf_algebra.proofs.PrimeMultiples.{IsCanonical-map_term_product, multiple-map}
-
-module _ {X : Type 0} (P : X → Type 0) (k : ℕ) (xs : List X) (each : AllByRecursion P xs) where
-  pub AllByRecursion-take : AllByRecursion P (take k xs)
-  AllByRecursion-take = AllByRecursion-front P (take k xs) (drop k xs) (subst (AllByRecursion P) (sym (take-append-drop k xs)) each)
-
-  pub AllByRecursion-drop : AllByRecursion P (drop k xs)
-  AllByRecursion-drop = AllByRecursion-back P (take k xs) (drop k xs) (subst (AllByRecursion P) (sym (take-append-drop k xs)) each)
 
 -- a modulus of which there is a nonzero residue is positive
 pub positive_from_residues : (p : ℕ) (us : List (Term Monomial)) → 0 < length us → AllByRecursion (IsNonzeroResidue p) us → 0 < p
