@@ -7,7 +7,7 @@ use Rattle.std.proofs.lemmas.Option.{slice_get_read}
 use Rattle.std.proofs.lemmas.Grind.{flat_map-append}
 use Rattle.sf_algebra.specs.MatrixOperations.{row_at}
 use Rattle.sf_algebra.specs.Monomials.{Monomial}
-use Rattle.sf_algebra.specs.Multiples.{term_product, combination_terms, combination}
+use Rattle.sf_algebra.specs.Multiples.{term_product, multiple, combination_terms, combination}
 use Rattle.sf_algebra.specs.Sums.{normal}
 use Rattle.sf_algebra.specs.Terms.{Term}
 use Rattle.sf_algebra.specs.Vectors.{Place, Vector}
@@ -49,3 +49,8 @@ read_row rows c i t position v positions within item same row =
     let read = slice_get_read c (length c) i t refl within item in
     let below : position < length rows = subst (λ n. n < length rows) (sym same) (AllByRecursion-get _ c i t positions read) in
     (read, sym (row_at-slice_get rows position v (slice_get_read rows (length rows) position v refl below row)) ∙ ap (row_at rows) same)
+
+-- a multiple is what its terms mean
+pub multiple-gathered : {K : Type 0} (cmp : K → K → Ordering) (act : Monomial → K → K) (p : ℕ) (s : Term Monomial) (ts products : List (Term K)) → products ≡ map (term_product act p s) ts → normal cmp p products ≡ multiple cmp act p s ts
+unfolding multiple
+multiple-gathered cmp act p s ts products gathered = ap (normal cmp p) gathered

@@ -48,3 +48,7 @@ PositionsFit n ts us = AllByRecursion (λ (t : Term Place). (t.at.position * n <
 -- the products of each term of each row with each term of each of the others have room
 abbrev pub KroneckerFits : List Vector → List Vector → Type 0
 KroneckerFits rows others = AllByRecursion (λ (v : Vector). AllByRecursion (λ (w : Vector). TermsFit v.terms w.terms) others) rows
+
+-- at most 4,096 rows and columns, and degrees from -8,000 to 8,000
+abbrev pub Fits : ℕ → ℕ → ℤ → ℤ → Type 0
+Fits rows columns low high = (rows ≤ 4096) × ((columns ≤ 4096) × ((neg_ℤ (pos 8000) ≤ℤ low) × (high ≤ℤ pos 8000)))

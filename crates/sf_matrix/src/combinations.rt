@@ -30,7 +30,7 @@ impl Term {
 }
 
 /// Adds the products of a term of a polynomial, `factor`, with each of the terms at the end.
-fn push_multiple(
+pub(crate) fn push_multiple(
     products: &mut Vec<Term>,
     modulus: Modulus,
     factor: &Term,

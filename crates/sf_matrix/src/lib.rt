@@ -3,6 +3,7 @@
 //! Contracts see each of them as the plain data of `sf_algebra`.
 #![tactic(auto)]
 
+mod bounds;
 mod combinations;
 mod free;
 mod list;
@@ -11,10 +12,12 @@ mod name;
 mod sums;
 mod vector;
 
+pub use bounds::fits;
 pub use free::Free;
 pub use list::List;
 pub use matrix::Matrix;
 pub use name::Name;
+pub use sf_field::Copied;
 pub use sums::{add_terms, sum_of_terms};
 pub use vector::{Term, Vector};
 

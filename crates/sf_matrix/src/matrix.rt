@@ -12,8 +12,9 @@ mod stack;
 mod transpose;
 
 use crate::free::Free;
+use crate::matrix::stack::push_copies;
 use crate::vector::Vector;
-use sf_field::{Modulus, OutOfMemory};
+use sf_field::{Copied, Modulus, OutOfMemory};
 use std::alloc::Global;
 use std::marker::Model;
 
@@ -96,5 +97,17 @@ impl Matrix {
         ensures target { result.now.degrees ≡ self.now.target }
     {
         &self.target
+    }
+}
+
+impl Copied for Matrix {
+    fn copy(&self, alloc: Global) -> Result<Matrix, OutOfMemory> {
+        let mut rows = Vec::with_capacity(alloc, self.rows.len())?;
+        push_copies(alloc, &mut rows, &self.rows)?;
+        Ok(Matrix {
+            modulus: self.modulus,
+            target: self.target.copy(alloc)?,
+            rows,
+        })
     }
 }

@@ -5,8 +5,10 @@ ghost use Rattle.sf_algebra.specs.Terms.{IsDescending};
 ghost use Rattle.sf_algebra.specs.Vectors.{place_cmp};
 ghost use Rattle.sf_matrix.specs.Places.{place_of, term_of};
 
+mod arithmetic;
 mod equality;
 
+pub(crate) use arithmetic::negative_terms;
 use sf_field::{Copied, OutOfMemory};
 use sf_mono::Mono;
 use std::alloc::Global;

@@ -1,18 +1,17 @@
-ghost use Rattle.std.specs.Prelude.{◌&&◌, ◌++◌, nat_eq};
-ghost use Rattle.std.specs.Ordering.{int_eq};
-ghost use Rattle.std.specs.Cmp.Lexicographic.{pointwise};
-ghost use Rattle.std.specs.Cmp.Rules.{comparing, hashing};
+ghost use Rattle.std.specs.Prelude.{◌++◌};
 ghost use Rattle.std.specs.Hash as fed;
-ghost use Rattle.std.proofs.Common.{rules};
+ghost use Rattle.std.proofs.Common.{ap};
+ghost use Rattle.sf_algebra.proofs.Equality.{same_matrix, Decides-same_matrix, same_matrix_per, same_matrix_equiv};
 
 use crate::matrix::Matrix;
 use crate::vector::Vector;
+use sf_field::Modulus;
 use std::hash::{Hash, Hasher};
 
 impl PartialEq for Matrix {
-    ghost eq = { λ m n. nat_eq m.modulus n.modulus && (pointwise int_eq m.target n.target && pointwise ⟦<Vector as PartialEq>⟧.eq m.rows n.rows) };
+    ghost eq = { same_matrix };
 
-    ghost laws = { Prim.search (comparing, rules) };
+    ghost laws = { same_matrix_per };
 
     fn eq(&self, other: &Matrix) -> bool {
         self.modulus == other.modulus && self.target == other.target && self.rows == other.rows
@@ -20,13 +19,13 @@ impl PartialEq for Matrix {
 }
 
 impl Eq for Matrix {
-    ghost laws = { Prim.search (comparing, rules) };
+    ghost laws = { same_matrix_equiv };
 }
 
 impl Hash for Matrix {
-    ghost hash_input = { λ m. fed.u32 m.modulus ++ fed.slice fed.i32 m.target ++ fed.slice ⟦<Vector as Hash>⟧.hash_input m.rows };
+    ghost hash_input = { λ m. ⟦<Modulus as Hash>⟧.hash_input m.modulus ++ (fed.slice ⟦<i32 as Hash>⟧.hash_input m.target ++ fed.slice ⟦<Vector as Hash>⟧.hash_input m.rows) };
 
-    ghost respects_eq = { Prim.search (hashing, rules) };
+    ghost respects_eq = { λ m n h. ap (λ k. ⟦<Modulus as Hash>⟧.hash_input k.modulus ++ (fed.slice ⟦<i32 as Hash>⟧.hash_input k.target ++ fed.slice ⟦<Vector as Hash>⟧.hash_input k.rows)) ((Decides-same_matrix m n).0 h) };
 
     fn hash<H: Hasher>(&self, state: &mut H) {
         self.modulus.hash(state);

@@ -25,7 +25,11 @@ impl Matrix {
 }
 
 /// Adds copies of vectors at the end.
-fn push_copies(alloc: Global, rows: &mut Vec<Vector>, vectors: &[Vector]) -> Result<(), OutOfMemory>
+pub(super) fn push_copies(
+    alloc: Global,
+    rows: &mut Vec<Vector>,
+    vectors: &[Vector],
+) -> Result<(), OutOfMemory>
     ensures ok { OnOk result (rows.new.items ≡ rows.old.items ++ vectors.now) }
 {
     for vector in vectors {

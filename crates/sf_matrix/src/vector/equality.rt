@@ -1,17 +1,15 @@
-ghost use Rattle.std.specs.Prelude.{◌&&◌, ◌++◌};
-ghost use Rattle.std.specs.Ordering.{int_eq};
-ghost use Rattle.std.specs.Cmp.Lexicographic.{pointwise};
-ghost use Rattle.std.specs.Cmp.Rules.{comparing, hashing};
+ghost use Rattle.std.specs.Prelude.{◌++◌};
 ghost use Rattle.std.specs.Hash as fed;
-ghost use Rattle.std.proofs.Common.{rules};
+ghost use Rattle.std.proofs.Common.{ap};
+ghost use Rattle.sf_algebra.proofs.Equality.{same_vector, Decides-same_vector, same_vector_per, same_vector_equiv};
 
 use crate::vector::{Term, Vector};
 use std::hash::{Hash, Hasher};
 
 impl PartialEq for Vector {
-    ghost eq = { λ v w. int_eq v.degree w.degree && pointwise ⟦<Term as PartialEq>⟧.eq v.terms w.terms };
+    ghost eq = { same_vector };
 
-    ghost laws = { Prim.search (comparing, rules) };
+    ghost laws = { same_vector_per };
 
     fn eq(&self, other: &Vector) -> bool {
         self.degree == other.degree && self.terms == other.terms
@@ -19,13 +17,13 @@ impl PartialEq for Vector {
 }
 
 impl Eq for Vector {
-    ghost laws = { Prim.search (comparing, rules) };
+    ghost laws = { same_vector_equiv };
 }
 
 impl Hash for Vector {
-    ghost hash_input = { λ v. fed.i32 v.degree ++ fed.slice ⟦<Term as Hash>⟧.hash_input v.terms };
+    ghost hash_input = { λ v. ⟦<i32 as Hash>⟧.hash_input v.degree ++ fed.slice ⟦<Term as Hash>⟧.hash_input v.terms };
 
-    ghost respects_eq = { Prim.search (hashing, rules) };
+    ghost respects_eq = { λ v w h. ap (λ u. ⟦<i32 as Hash>⟧.hash_input u.degree ++ fed.slice ⟦<Term as Hash>⟧.hash_input u.terms) ((Decides-same_vector v w).0 h) };
 
     fn hash<H: Hasher>(&self, state: &mut H) {
         self.degree.hash(state);

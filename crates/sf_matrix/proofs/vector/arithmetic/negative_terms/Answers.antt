@@ -4,7 +4,7 @@ use Rattle.sf_algebra.specs.Terms.{IsCanonical}
 use Rattle.sf_algebra.specs.Vectors.{place_cmp}
 use Rattle.sf_algebra.proofs.Negatives.{IsCanonical-negative}
 use Rattle.sf_matrix.proofs.Assembled.{mapped_all}
-use Rattle.sf_matrix.proofs.matrix.negate.negative.Goals as goal
+use Rattle.sf_matrix.proofs.vector.arithmetic.negative_terms.Goals as goal
 
 pub returns-clause-canonical : goal.returns-clause-canonical
 returns-clause-canonical c =

@@ -1,0 +1,66 @@
+-- Terms, vectors and matrices are equal where all their parts are.
+use Rattle.std.proofs.Common.{◌≡◌, ℕ, Bool, true, ◌&&◌, ◌==◌, int_eq, nat_eq, refl, sym, ◌∙◌, ap, subst}
+use Rattle.std.specs.Bool.{Decides, one_answer}
+use Rattle.std.specs.Cmp.{IsEquivalence, IsPartialEquivalence, partial_equiv_from_equiv}
+use Rattle.std.specs.Cmp.Lexicographic.{pointwise}
+use Rattle.std.proofs.lemmas.Bool.Decides.{Decides-eqb, Decides-and, Decides-int_eq}
+use Rattle.std.proofs.lemmas.Slice.Eq.{slice_eq-Decides}
+use Rattle.sf_algebra.specs.Matrices.{Matrix}
+use Rattle.sf_algebra.specs.Terms.{Term}
+use Rattle.sf_algebra.specs.Vectors.{Place, Vector}
+use Rattle.sf_algebra.proofs.MonomialEquality.{same_exponents, Decides-same_exponents}
+
+-- a test that decides equality is an equivalence
+pub equivalence_from_Decides : {K : Type 0} (E : K → K → Bool) → ((a b : K) → Decides (E a b) (a ≡ b)) → IsEquivalence E
+equivalence_from_Decides E d = record {
+  refl = λ x. (d x x).1 refl;
+  symm = λ x y. one_answer (E x y) (E y x) (d x y) (λ h. sym ((d y x).0 h), λ e. (d y x).1 (sym e));
+  congr = λ x y z h. ap (λ a. E a z) ((d x y).0 h);
+}
+
+-- position, monomial and coefficient, one after another
+abbrev pub same_term : Term Place → Term Place → Bool
+same_term t u = (t.at.position == u.at.position) && (same_exponents t.at.monomial u.at.monomial && (t.coefficient == u.coefficient))
+
+pub Decides-same_term : (t u : Term Place) → Decides (same_term t u) (t ≡ u)
+Decides-same_term t u =
+    let d = Decides-and _ _ (Decides-eqb t.at.position u.at.position) (Decides-and _ _ (Decides-same_exponents t.at.monomial u.at.monomial) (Decides-eqb t.coefficient u.coefficient)) in (
+      λ h. let p = d.0 h in λ i. record { at = record { position = p.0 i; monomial = p.1.0 i }; coefficient = p.1.1 i },
+      λ e. d.1 (ap (λ s. s.at.position) e, (ap (λ s. s.at.monomial) e, ap (λ s. s.coefficient) e)),
+    )
+
+-- the degree and the terms
+abbrev pub same_vector : Vector → Vector → Bool
+same_vector v w = int_eq v.degree w.degree && pointwise same_term v.terms w.terms
+
+pub Decides-same_vector : (v w : Vector) → Decides (same_vector v w) (v ≡ w)
+Decides-same_vector v w =
+    let d = Decides-and _ _ (Decides-int_eq v.degree w.degree) (slice_eq-Decides Decides-same_term v.terms w.terms (pointwise same_term v.terms w.terms) refl) in (
+      λ h. let p = d.0 h in λ i. record { degree = p.0 i; terms = p.1 i },
+      λ e. d.1 (ap (λ u. u.degree) e, ap (λ u. u.terms) e),
+    )
+
+-- the modulus, the degrees and the rows
+abbrev pub same_matrix : Matrix → Matrix → Bool
+same_matrix m n = nat_eq m.modulus n.modulus && (pointwise int_eq m.target n.target && pointwise same_vector m.rows n.rows)
+
+pub Decides-same_matrix : (m n : Matrix) → Decides (same_matrix m n) (m ≡ n)
+Decides-same_matrix m n =
+    let d = Decides-and _ _ (Decides-eqb m.modulus n.modulus)
+    (Decides-and _ _ (slice_eq-Decides Decides-int_eq m.target n.target (pointwise int_eq m.target n.target) refl)
+    (slice_eq-Decides Decides-same_vector m.rows n.rows (pointwise same_vector m.rows n.rows) refl)) in (
+      λ h. let p = d.0 h in λ i. record { modulus = p.0 i; target = p.1.0 i; rows = p.1.1 i },
+      λ e. d.1 (ap (λ k. k.modulus) e, (ap (λ k. k.target) e, ap (λ k. k.rows) e)),
+    )
+
+pub same_vector_equiv : IsEquivalence same_vector
+same_vector_equiv = equivalence_from_Decides same_vector Decides-same_vector
+
+pub same_vector_per : IsPartialEquivalence same_vector
+same_vector_per = partial_equiv_from_equiv same_vector_equiv
+
+pub same_matrix_equiv : IsEquivalence same_matrix
+same_matrix_equiv = equivalence_from_Decides same_matrix Decides-same_matrix
+
+pub same_matrix_per : IsPartialEquivalence same_matrix
+same_matrix_per = partial_equiv_from_equiv same_matrix_equiv
