@@ -47,6 +47,10 @@ variable i = from_exponents (slice_set (replicate VARIABLES 0) i 1)
 abbrev pub exponent_sum : Monomial → ℕ
 exponent_sum a = a.e1 + a.e2 + a.e3 + a.e4 + a.e5 + a.e6
 
+-- the greatest sum of exponents of a monomial that the program keeps
+abbrev pub GREATEST_SUM : ℕ
+GREATEST_SUM = 65535
+
 -- a greater sum of exponents is greater; at equal sums, a is greater where the last exponent in which they differ is smaller in a
 abbrev pub monomial_cmp : Monomial → Monomial → Ordering
 monomial_cmp =

@@ -3,13 +3,13 @@ use Rattle.std.proofs.Common.{◌≡◌, ℕ, zero, suc, ◌+◌, ◌<◌, ◌�
 use Rattle.std.proofs.lemmas.Int.{ints}
 use Rattle.std.specs.List.{AllByRecursion}
 use Rattle.sf_algebra.specs.Matrices.{Matrix, IsMatrix, row_degrees}
-use Rattle.sf_algebra.specs.Monomials.{Monomial, exponent_sum}
+use Rattle.sf_algebra.specs.Monomials.{Monomial, GREATEST_SUM, exponent_sum}
 use Rattle.sf_algebra.specs.MatrixOperations.{row_at}
 use Rattle.sf_algebra.specs.Terms.{Term, IsNonzeroResidue}
 use Rattle.sf_algebra.specs.Vectors.{Place, Vector, IsVector, generator_degree}
 use Rattle.sf_algebra.proofs.Lists.{AllByRecursion-weaken}
 use Rattle.sf_algebra.proofs.MatrixProducts.{IsHomogeneous-row_at}
-use Rattle.sf_matrix.specs.Bounds.{GREATEST_SUM, CombinationFits, DegreeFits}
+use Rattle.sf_matrix.specs.Bounds.{CombinationFits, DegreeFits}
 
 -- a fact of each item, of the one at a place
 pub AllByRecursion-index : {X : Type 0} (P : X → Type 0) (xs : List X) (i : ℕ) (d : X) → AllByRecursion P xs → i < length xs → P (slice_index_or xs i d)

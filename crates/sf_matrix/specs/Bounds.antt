@@ -1,13 +1,9 @@
 -- What keeps products of terms within the room of a monomial.
 use Rattle.std.specs.Prelude.{ℕ, ◌+◌, ◌*◌, ◌^◌, ◌<◌, ◌≤◌, List, ℤ, pos, neg_ℤ, ◌+ℤ◌, ◌≤ℤ◌}
 use Rattle.std.specs.List.{AllByRecursion}
-use Rattle.sf_algebra.specs.Monomials.{Monomial, exponent_sum}
+use Rattle.sf_algebra.specs.Monomials.{Monomial, GREATEST_SUM, exponent_sum}
 use Rattle.sf_algebra.specs.Terms.{Term}
 use Rattle.sf_algebra.specs.Vectors.{Place, Vector}
-
--- the greatest sum of exponents of a monomial
-abbrev pub GREATEST_SUM : ℕ
-GREATEST_SUM = 65535
 
 -- the products of a monomial with each term of a list have room
 abbrev pub MultipleFits : Monomial → List (Term Place) → Type 0

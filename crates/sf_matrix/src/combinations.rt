@@ -1,11 +1,11 @@
 ghost use Rattle.std.specs.Prelude.{◌≡◌, ◌+◌, ◌<◌, ◌≤◌, ◌++◌, length, map, IfOk, OnOk};
 ghost use Rattle.std.specs.List.{AllByRecursion};
 ghost use Rattle.sf_algebra.specs.MatrixOperations.{row_at, row_combination};
-ghost use Rattle.sf_algebra.specs.Monomials.{exponent_sum};
+ghost use Rattle.sf_algebra.specs.Monomials.{GREATEST_SUM, exponent_sum};
 ghost use Rattle.sf_algebra.specs.Multiples.{place_product, term_product};
 ghost use Rattle.sf_algebra.specs.Terms.{IsCanonical, IsNonzeroResidue};
 ghost use Rattle.sf_algebra.specs.Vectors.{place_cmp};
-ghost use Rattle.sf_matrix.specs.Bounds.{GREATEST_SUM, MultipleFits, CombinationFits};
+ghost use Rattle.sf_matrix.specs.Bounds.{MultipleFits, CombinationFits};
 ghost use Rattle.sf_matrix.specs.Places.{factor_of};
 
 use crate::sums::sum_of_gathered;

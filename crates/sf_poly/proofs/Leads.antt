@@ -5,11 +5,11 @@ use Rattle.std.specs.declared.cmp.Ordering.TheVariants.{Less}
 use Rattle.std.specs.List.{AllByRecursion}
 use Rattle.std.specs.Ordering.{nat_cmp, ordering_then}
 use Rattle.std.proofs.lemmas.Bool.Decides.{nat_tests}
-use Rattle.sf_algebra.specs.Monomials.{Monomial, monomial_cmp, exponent_sum}
+use Rattle.sf_algebra.specs.Monomials.{Monomial, GREATEST_SUM, monomial_cmp, exponent_sum}
 use Rattle.sf_algebra.specs.Terms.{Term, IsDescending}
 use Rattle.sf_algebra.proofs.Lists.{AllByRecursion-weaken}
 use Rattle.sf_poly.specs.Polynomials.{lead}
-use Rattle.sf_poly.specs.Bounds.{GREATEST_SUM, IsBoundedBy, HasRoom, MultipleFits, ProductFits}
+use Rattle.sf_poly.specs.Bounds.{IsBoundedBy, HasRoom, MultipleFits, ProductFits}
 
 nat_cmp-lead : (m n : ℕ) (o : Ordering) → ordering_then (nat_cmp m n) o ≡ Less → m ≤ n
 nat_cmp-lead m n o e = grind (arith, nat_tests)

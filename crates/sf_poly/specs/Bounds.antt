@@ -1,13 +1,9 @@
 -- What keeps products of terms within the room of a monomial.
 use Rattle.std.specs.Prelude.{ℕ, ◌+◌, ◌≤◌, List, IfSome}
 use Rattle.std.specs.List.{AllByRecursion}
-use Rattle.sf_algebra.specs.Monomials.{Monomial, exponent_sum}
+use Rattle.sf_algebra.specs.Monomials.{Monomial, GREATEST_SUM, exponent_sum}
 use Rattle.sf_algebra.specs.Terms.{Term}
 use Rattle.sf_poly.specs.Polynomials.{degree}
-
--- the greatest sum of exponents of a monomial
-abbrev pub GREATEST_SUM : ℕ
-GREATEST_SUM = 65535
 
 -- each term has at most this sum of exponents
 abbrev pub IsBoundedBy : ℕ → List (Term Monomial) → Type 0

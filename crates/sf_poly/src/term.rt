@@ -1,7 +1,6 @@
 ghost use Rattle.std.specs.Prelude.{◌≡◌, ◌+◌, ◌<◌, ◌≤◌};
-ghost use Rattle.sf_algebra.specs.Monomials.{product, exponent_sum};
+ghost use Rattle.sf_algebra.specs.Monomials.{GREATEST_SUM, product, exponent_sum};
 ghost use Rattle.sf_algebra.specs.Multiples.{term_product};
-ghost use Rattle.sf_poly.specs.Bounds.{GREATEST_SUM};
 
 use sf_field::Modulus;
 use sf_mono::Mono;
