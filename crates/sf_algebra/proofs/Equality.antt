@@ -1,7 +1,7 @@
 -- Terms, vectors and matrices are equal where all their parts are.
-use Rattle.std.proofs.Common.{◌≡◌, ℕ, Bool, true, ◌&&◌, ◌==◌, int_eq, nat_eq, refl, sym, ◌∙◌, ap, subst}
-use Rattle.std.specs.Bool.{Decides, one_answer}
-use Rattle.std.specs.Cmp.{IsEquivalence, IsPartialEquivalence, partial_equiv_from_equiv}
+use Rattle.std.proofs.Common.{◌≡◌, Bool, ◌&&◌, ◌==◌, int_eq, nat_eq, refl, ap}
+use Rattle.std.specs.Bool.{Decides}
+use Rattle.std.specs.Cmp.{IsEquivalence, IsPartialEquivalence, decided, partial_equiv_from_equiv}
 use Rattle.std.specs.Cmp.Lexicographic.{pointwise}
 use Rattle.std.proofs.lemmas.Bool.Decides.{Decides-eqb, Decides-and, Decides-int_eq}
 use Rattle.std.proofs.lemmas.Slice.Eq.{slice_eq-Decides}
@@ -9,14 +9,6 @@ use Rattle.sf_algebra.specs.Matrices.{Matrix}
 use Rattle.sf_algebra.specs.Terms.{Term}
 use Rattle.sf_algebra.specs.Vectors.{Place, Vector}
 use Rattle.sf_algebra.proofs.MonomialEquality.{same_exponents, Decides-same_exponents}
-
--- a test that decides equality is an equivalence
-pub equivalence_from_Decides : {K : Type 0} (E : K → K → Bool) → ((a b : K) → Decides (E a b) (a ≡ b)) → IsEquivalence E
-equivalence_from_Decides E d = record {
-  refl = λ x. (d x x).1 refl;
-  symm = λ x y. one_answer (E x y) (E y x) (d x y) (λ h. sym ((d y x).0 h), λ e. (d y x).1 (sym e));
-  congr = λ x y z h. ap (λ a. E a z) ((d x y).0 h);
-}
 
 -- position, monomial and coefficient, one after another
 abbrev pub same_term : Term Place → Term Place → Bool
@@ -54,13 +46,13 @@ Decides-same_matrix m n =
     )
 
 pub same_vector_equiv : IsEquivalence same_vector
-same_vector_equiv = equivalence_from_Decides same_vector Decides-same_vector
+same_vector_equiv = decided same_vector Decides-same_vector
 
 pub same_vector_per : IsPartialEquivalence same_vector
 same_vector_per = partial_equiv_from_equiv same_vector_equiv
 
 pub same_matrix_equiv : IsEquivalence same_matrix
-same_matrix_equiv = equivalence_from_Decides same_matrix Decides-same_matrix
+same_matrix_equiv = decided same_matrix Decides-same_matrix
 
 pub same_matrix_per : IsPartialEquivalence same_matrix
 same_matrix_per = partial_equiv_from_equiv same_matrix_equiv

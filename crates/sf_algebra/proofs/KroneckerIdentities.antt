@@ -81,6 +81,6 @@ entry-kronecker_identity a es above h i k j l row column =
       | inr other ↦
           let no : eqb k l ≡ false = grind (arith, nat_tests) in
           ap (λ c. polynomial_product a.modulus c (entry j (row_at a.rows i))) (entry-unit_rows_other es k l other)
-          ∙ polynomial_product-nil a.modulus positive (entry j (row_at a.rows i))
+          ∙ polynomial_product-nil a.modulus (entry j (row_at a.rows i))
           ∙ ap (λ b. if b then entry j (row_at a.rows i) else []) (sym no)
     ]

@@ -5,15 +5,9 @@ use Rattle.sf_algebra.specs.Matrices.{Matrix, row_degrees, IsMatrix}
 use Rattle.sf_algebra.specs.MatrixOperations.{row_at, row_combination, matrix_product}
 use Rattle.sf_algebra.specs.MatrixProductLaws.{IsComposable}
 use Rattle.sf_algebra.specs.Vectors.{Vector, generator_degree, IsHomogeneous, IsVector}
-use Rattle.sf_algebra.proofs.Degrees.{IsHomogeneous-row_at as homogeneous_row}
 use Rattle.sf_algebra.proofs.HomogeneousVectors.{IsVector-row_combination}
 use Rattle.sf_algebra.proofs.Lists.{AllByRecursion-weaken}
 use Rattle.sf_algebra.proofs.Stacks.{AllByRecursion-map, degrees-with_terms}
-
--- the row of a matrix at a number has the degree at that number
-pub IsHomogeneous-row_at : (p : ℕ) (degrees : List ℤ) (vs : List Vector) → AllByRecursion (IsVector p degrees) vs → (k : ℕ)
-    → IsHomogeneous degrees (generator_degree (map (λ (v : Vector). v.degree) vs) k) (row_at vs k)
-IsHomogeneous-row_at p degrees vs h = homogeneous_row degrees vs (AllByRecursion-weaken _ _ (λ v k. k.homogeneous) vs h)
 
 pub row_degrees-matrix_product : (a b : Matrix) → row_degrees (matrix_product a b) ≡ row_degrees a
 row_degrees-matrix_product a b = degrees-with_terms (row_combination a.modulus b.rows) a.rows

@@ -1,13 +1,13 @@
 -- Polynomials with sums and products are a commutative ring.
 use Rattle.std.proofs.Common.{◌≡◌, ℕ, ◌%◌, ◌<◌, List, [], ◌∷◌, ◌++◌, refl, sym, ◌∙◌, ap}
 use Rattle.sf_algebra.specs.Monomials.{Monomial, product, monomial_cmp}
-use Rattle.sf_algebra.specs.Multiples.{multiple, negative, term_product}
+use Rattle.sf_algebra.specs.Multiples.{multiple, negative, term_product, combination, combination_terms}
 use Rattle.sf_algebra.specs.Polynomials.{polynomial_product}
-use Rattle.sf_algebra.specs.Sums.{add, total, part_at, coefficient_at}
+use Rattle.sf_algebra.specs.Sums.{add, normal, total, part_at, coefficient_at}
 use Rattle.sf_algebra.specs.Terms.{Term, IsCanonical}
 use Rattle.sf_algebra.proofs.Associativity.{IsOfRows, combination_combination, combination-multiple, combination-negative}
 use Rattle.sf_algebra.proofs.Coefficients.{part_at-additive}
-use Rattle.sf_algebra.proofs.CombinationLaws.{combination-add, combination-add_rows, combination-append, combination-cons, combination-push, combination-nil, combination-one, combination-same}
+use Rattle.sf_algebra.proofs.CombinationLaws.{combination-add, combination-add_rows, combination-append, combination-cons, combination-push, combination-one, combination-same}
 use Rattle.sf_algebra.proofs.Combinations.{IsCanonical-combination, total-combination}
 use Rattle.sf_algebra.proofs.DoubleTotals.{total_exchange, total-same}
 use Rattle.sf_algebra.proofs.Keys.{monomial_keys}
@@ -16,6 +16,10 @@ use Rattle.sf_algebra.proofs.MultipleLaws.{multiple-one, one_term, term_product-
 -- every coefficient of a product of polynomials stands for the second factor
 constant_rows : (v : List (Term Monomial)) → IsOfRows monomial_keys (λ a. a) (λ _. v)
 constant_rows v = record { monomial_act = λ a k. refl; row_act = λ a k. refl }
+
+pub polynomial_product-nil : (p : ℕ) (u : List (Term Monomial)) → polynomial_product p [] u ≡ []
+unfolding combination combination_terms normal
+polynomial_product-nil p u = refl
 
 module _ (p : ℕ) (positive : 0 < p) where
   pub IsCanonical-polynomial_product : (u v : List (Term Monomial)) → IsCanonical monomial_cmp p (polynomial_product p u v)
@@ -40,9 +44,6 @@ module _ (p : ℕ) (positive : 0 < p) where
   polynomial_product-one u canonical =
       combination-one monomial_keys p positive (λ a. a) (λ _. u) one_term ∙ multiple-one monomial_keys p positive u canonical
 
-  pub polynomial_product-nil : (u : List (Term Monomial)) → polynomial_product p [] u ≡ []
-  polynomial_product-nil u = combination-nil monomial_keys p positive (λ a. a) (λ _. u)
-
   pub polynomial_product-negative : (u v : List (Term Monomial)) → IsCanonical monomial_cmp p u → polynomial_product p (negative p u) v ≡ negative p (polynomial_product p u v)
   polynomial_product-negative u v h = combination-negative monomial_keys monomial_keys p positive (λ a. a) (λ _. v) (constant_rows v) u h
 
@@ -51,7 +52,7 @@ module _ (p : ℕ) (positive : 0 < p) where
   polynomial_product-add_second u v w = combination-add_rows monomial_keys p positive (λ a. a) (λ _. v) (λ _. w) u
 
   pub polynomial_product-nil_second : (u : List (Term Monomial)) → polynomial_product p u [] ≡ []
-  polynomial_product-nil_second u = polynomial_product-comm u [] ∙ polynomial_product-nil u
+  polynomial_product-nil_second u = polynomial_product-comm u [] ∙ polynomial_product-nil p u
 
   -- a first factor of one term gives the multiple
   pub polynomial_product-one_term : (t : Term Monomial) (v : List (Term Monomial)) → polynomial_product p (t ∷ []) v ≡ multiple monomial_cmp product p t v

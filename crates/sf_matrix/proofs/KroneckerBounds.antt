@@ -1,22 +1,18 @@
 -- Tensor products of rows of matrices stand within bounds.
 use Rattle.std.proofs.Common.{◌≡◌, ℕ, suc, ◌+◌, ◌*◌, ◌<◌, ◌≤◌, List, length, map, ℤ, ◌+ℤ◌, arith}
-use Rattle.std.proofs.Math.Nat.{mul-le-mul}
+use Rattle.std.proofs.Math.Nat.{mul-le-mul_right}
 use Rattle.std.specs.List.{AllByRecursion}
 use Rattle.sf_algebra.specs.Terms.{Term}
 use Rattle.sf_algebra.specs.Vectors.{Place, Vector, IsVector}
+use Rattle.sf_algebra.proofs.KroneckerVectors.{pair_below}
 use Rattle.sf_algebra.proofs.Lists.{AllByRecursion-weaken}
 use Rattle.sf_matrix.specs.Bounds.{IsDegree, SumsFit, PositionsFit}
 use Rattle.sf_matrix.proofs.Pieces.{AllByRecursion-unmap}
 
--- a position of the product, by the positions of its factors
-pair_below : (i m j n bound : ℕ) → i < m → j < n → m * n < bound → i * n + j < bound
-pair_below i m j n bound first second size =
-    let rows : suc i * n ≤ m * n = mul-le-mul first (let same : n ≤ n = omega arith in same) in
-    omega arith
-
+-- the first position of what a term gives
 first_below : (i m n bound : ℕ) → i < m → m * n < bound → i * n < bound
 first_below i m n bound first size =
-    let rows : suc i * n ≤ m * n = mul-le-mul first (let same : n ≤ n = omega arith in same) in
+    let rows : i * n ≤ m * n = mul-le-mul_right n (omega arith) in
     omega arith
 
 -- the positions of the tensor product of two rows
@@ -25,7 +21,7 @@ PositionsFit-vectors p ds es v w size h k =
     AllByRecursion-weaken _ _
     (λ t e. (
       first_below t.at.position (length ds) (length es) _ e.0 size,
-      AllByRecursion-weaken _ _ (λ u f. pair_below t.at.position (length ds) u.at.position (length es) _ e.0 f.0 size) w.terms k.homogeneous,
+      AllByRecursion-weaken _ _ (λ u f. omega (arith, pair_below t.at.position u.at.position (length ds) (length es) e.0 f.0, size)) w.terms k.homogeneous,
     )
     )
     v.terms h.homogeneous

@@ -2,20 +2,15 @@
 use Rattle.std.proofs.Common.{◌≡◌, ℕ, zero, suc, ◌+◌, ◌<◌, ◌≤◌, List, [], ◌∷◌, length, map, slice_index_or, ℤ, pos, ◌+ℤ◌, ◌≤ℤ◌, arith, subst, sym}
 use Rattle.std.proofs.lemmas.Int.{ints}
 use Rattle.std.specs.List.{AllByRecursion}
+use Rattle.std.proofs.lemmas.Option.{slice_get-get_or}
 use Rattle.sf_algebra.specs.Matrices.{Matrix, IsMatrix, row_degrees}
 use Rattle.sf_algebra.specs.Monomials.{Monomial, GREATEST_SUM, exponent_sum}
 use Rattle.sf_algebra.specs.MatrixOperations.{row_at}
 use Rattle.sf_algebra.specs.Terms.{Term, IsNonzeroResidue}
 use Rattle.sf_algebra.specs.Vectors.{Place, Vector, IsVector, generator_degree}
-use Rattle.sf_algebra.proofs.Lists.{AllByRecursion-weaken}
-use Rattle.sf_algebra.proofs.MatrixProducts.{IsHomogeneous-row_at}
+use Rattle.sf_algebra.proofs.Degrees.{IsHomogeneous-row_at}
+use Rattle.sf_algebra.proofs.Lists.{AllByRecursion-get, AllByRecursion-weaken}
 use Rattle.sf_matrix.specs.Bounds.{CombinationFits, DegreeFits}
-
--- a fact of each item, of the one at a place
-pub AllByRecursion-index : {X : Type 0} (P : X → Type 0) (xs : List X) (i : ℕ) (d : X) → AllByRecursion P xs → i < length xs → P (slice_index_or xs i d)
-AllByRecursion-index P [] i d h below = absurd (omega arith)
-AllByRecursion-index P (x ∷ xs) zero d h below = h.0
-AllByRecursion-index P (x ∷ xs) (suc i) d h below = AllByRecursion-index P xs i d h.1 (omega arith)
 
 sums_fit : (d c e : ℤ) (a b : Monomial) → d ≡ c +ℤ pos (exponent_sum a) → c ≡ e +ℤ pos (exponent_sum b) → d ≤ℤ (e +ℤ pos GREATEST_SUM) → exponent_sum a + exponent_sum b ≤ GREATEST_SUM
 sums_fit d c e a b first second bound = omega (arith, ints, first, second, bound)
@@ -26,9 +21,9 @@ pub CombinationFits-homogeneous : (p : ℕ) (degrees : List ℤ) (rows : List Ve
 CombinationFits-homogeneous p degrees rows v h k bound =
     AllByRecursion-weaken _ _
     (λ t e. AllByRecursion-weaken _ _
-    (λ u f. sums_fit v.degree _ (generator_degree degrees u.at.position) t.at.monomial u.at.monomial e.1 f.1 (AllByRecursion-index _ degrees u.at.position (pos 0) bound f.0))
+    (λ u f. sums_fit v.degree _ (generator_degree degrees u.at.position) t.at.monomial u.at.monomial e.1 f.1 (AllByRecursion-get _ degrees u.at.position _ bound (slice_get-get_or degrees u.at.position (pos 0) f.0)))
     (row_at rows t.at.position)
-    (IsHomogeneous-row_at p degrees rows h t.at.position))
+    (IsHomogeneous-row_at degrees rows (AllByRecursion-weaken _ _ (λ w f. f.homogeneous) rows h) t.at.position))
     v.terms k.homogeneous
 
 -- a row of a matrix times a matrix that goes on from its target

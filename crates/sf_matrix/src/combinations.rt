@@ -5,7 +5,7 @@ ghost use Rattle.sf_algebra.specs.Monomials.{GREATEST_SUM, exponent_sum};
 ghost use Rattle.sf_algebra.specs.Multiples.{place_product, term_product};
 ghost use Rattle.sf_algebra.specs.Terms.{IsCanonical, IsNonzeroResidue};
 ghost use Rattle.sf_algebra.specs.Vectors.{place_cmp};
-ghost use Rattle.sf_matrix.specs.Bounds.{MultipleFits, CombinationFits};
+ghost use Rattle.sf_matrix.specs.Bounds.{HasRoom, CombinationFits};
 ghost use Rattle.sf_matrix.specs.Places.{factor_of};
 
 use crate::sums::sum_of_gathered;
@@ -36,7 +36,7 @@ pub(crate) fn push_multiple(
     factor: &Term,
     terms: &[Term],
 ) -> Result<(), OutOfMemory>
-    requires room { MultipleFits factor.now.at.monomial terms.now }
+    requires room { HasRoom factor.now.at.monomial terms.now }
     requires residues { AllByRecursion (IsNonzeroResidue modulus) terms.now }
     requires factor { factor.now.coefficient < modulus }
     ensures ok { OnOk result (products.new.items

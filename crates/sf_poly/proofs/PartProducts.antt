@@ -3,13 +3,13 @@ use Rattle.std.proofs.Common.{◌≡◌, ℕ, ◌<◌, ◌≤◌, List, [], ◌�
 use Rattle.std.specs.List.{AllByRecursion}
 use Rattle.std.proofs.lemmas.List.{take-append-drop, take_all}
 use Rattle.sf_algebra.specs.Monomials.{Monomial, product, monomial_cmp}
-use Rattle.sf_algebra.specs.Multiples.{term_product, multiple, combination, combination_terms}
+use Rattle.sf_algebra.specs.Multiples.{term_product, multiple}
 use Rattle.sf_algebra.specs.Polynomials.{polynomial_product}
 use Rattle.sf_algebra.specs.Primes.{IsPrime}
-use Rattle.sf_algebra.specs.Sums.{add, normal}
+use Rattle.sf_algebra.specs.Sums.{add}
 use Rattle.sf_algebra.specs.Terms.{Term, IsCanonical, IsNonzeroResidue}
-use Rattle.sf_algebra.proofs.CombinationLaws.{combination-append, combination-one}
 use Rattle.sf_algebra.proofs.Keys.{monomial_keys}
+use Rattle.sf_algebra.proofs.Polynomials.{polynomial_product-append}
 use Rattle.sf_algebra.proofs.PrimeMultiples.{IsCanonical-map_term_product, multiple-map}
 
 -- a modulus of which there is a nonzero residue is positive
@@ -17,21 +17,11 @@ pub positive_from_residues : (p : ℕ) (us : List (Term Monomial)) → 0 < lengt
 positive_from_residues p [] some h = absurd (omega arith)
 positive_from_residues p (u ∷ us) some h = omega (arith, h.0.1)
 
--- no term
-pub polynomial_product-none : (p : ℕ) (v : List (Term Monomial)) → polynomial_product p [] v ≡ []
-unfolding combination combination_terms normal
-polynomial_product-none p v = refl
-
-module _ (p : ℕ) (positive : 0 < p) (v : List (Term Monomial)) where
-  -- one term
-  pub polynomial_product-one_term : (t : Term Monomial) → polynomial_product p (t ∷ []) v ≡ multiple monomial_cmp product p t v
-  polynomial_product-one_term t = combination-one monomial_keys p positive (λ a. a) (λ _. v) t
-
-  -- the halves
-  pub polynomial_product-halves : (k : ℕ) (us : List (Term Monomial)) → polynomial_product p us v ≡ add monomial_cmp p (polynomial_product p (take k us) v) (polynomial_product p (drop k us) v)
-  polynomial_product-halves k us =
-      ap (λ l. polynomial_product p l v) (sym (take-append-drop k us))
-      ∙ combination-append monomial_keys p positive (λ a. a) (λ _. v) (take k us) (drop k us)
+-- the halves
+pub polynomial_product-halves : (p : ℕ) → 0 < p → (v : List (Term Monomial)) (k : ℕ) (us : List (Term Monomial)) → polynomial_product p us v ≡ add monomial_cmp p (polynomial_product p (take k us) v) (polynomial_product p (drop k us) v)
+polynomial_product-halves p positive v k us =
+    ap (λ l. polynomial_product p l v) (sym (take-append-drop k us))
+    ∙ polynomial_product-append p positive (take k us) (drop k us) v
 
 -- the products of a term with each of the terms, once a loop has been through all
 module _ (p : ℕ) (t : Term Monomial) (prime : IsPrime p) (nonzero : IsNonzeroResidue p t) (us : List (Term Monomial)) (canonical : IsCanonical monomial_cmp p us) where

@@ -5,7 +5,7 @@ ghost use Rattle.sf_algebra.specs.MatrixOperations.{moved, degree_sums, kronecke
 ghost use Rattle.sf_algebra.specs.Multiples.{place_product, term_product};
 ghost use Rattle.sf_algebra.specs.Terms.{IsCanonical, IsNonzeroResidue};
 ghost use Rattle.sf_algebra.specs.Vectors.{place_cmp};
-ghost use Rattle.sf_matrix.specs.Bounds.{IsDegree, SumsFit, MultipleFits, TermsFit, PositionsFit, KroneckerFits};
+ghost use Rattle.sf_matrix.specs.Bounds.{IsDegree, SumsFit, HasRoom, TermsFit, PositionsFit, KroneckerFits};
 ghost use Rattle.sf_matrix.specs.Places.{factor_of, kronecker_vector};
 
 use crate::free::Free;
@@ -118,7 +118,7 @@ fn push_moved_multiple(
     by: u64,
     terms: &[Term],
 ) -> Result<(), OutOfMemory>
-    requires room { MultipleFits factor.now.at.monomial terms.now }
+    requires room { HasRoom factor.now.at.monomial terms.now }
     requires positions { AllByRecursion (λ u. by + u.at.position < 2 ^ 64) terms.now }
     requires residues { AllByRecursion (IsNonzeroResidue modulus) terms.now }
     requires factor { factor.now.coefficient < modulus }

@@ -4,7 +4,7 @@ ghost use Rattle.sf_algebra.specs.Multiples.{place_product, negative, multiple};
 ghost use Rattle.sf_algebra.specs.Sums.{add};
 ghost use Rattle.sf_algebra.specs.Terms.{IsCanonical};
 ghost use Rattle.sf_algebra.specs.Vectors.{place_cmp};
-ghost use Rattle.sf_matrix.specs.Bounds.{IsDegree, MultipleFits};
+ghost use Rattle.sf_matrix.specs.Bounds.{IsDegree, HasRoom};
 
 use crate::combinations::push_multiple;
 use crate::sums::{add_terms, sum_of_gathered};
@@ -57,7 +57,7 @@ impl Vector {
     ) -> Result<Vector, OutOfMemory>
         requires canonical { IsCanonical place_cmp modulus self.now.terms }
         requires residue { c < modulus }
-        requires room { MultipleFits a self.now.terms }
+        requires room { HasRoom a self.now.terms }
         requires degree { IsDegree (self.now.degree +ℤ pos (exponent_sum a)) }
         ensures multiple { IfOk result (λ v. v ≡ record {
           degree = self.now.degree +ℤ pos (exponent_sum a);

@@ -3,7 +3,7 @@ use Rattle.sf_algebra.specs.Multiples.{place_product, term_product}
 use Rattle.sf_algebra.specs.Vectors.{place_cmp}
 use Rattle.sf_algebra.proofs.Gathering.{combination_terms-nil, combination_terms-take, combination-gathered, read_row}
 use Rattle.sf_algebra.proofs.Lists.{AllByRecursion-get}
-use Rattle.sf_matrix.specs.Bounds.{MultipleFits}
+use Rattle.sf_matrix.specs.Bounds.{HasRoom}
 use Rattle.sf_matrix.specs.Places.{factor_of}
 use Rattle.sf_matrix.proofs.combinations.combination.Goals as goal
 
@@ -14,7 +14,7 @@ pub push_multiple-requires-clause-room : goal.push_multiple-requires-clause-room
 push_multiple-requires-clause-room c =
     let read = read_row c.args.rows.now c.args.c.now c.loop-factor.factor-index c.factor-item.result _ c.index-rows-factor.result c.requires.positions (search rules) c.factor-item.is (ap (λ t. t.at.position) c.factor.view_is) c.index-rows-factor.is in
     let terms = c.deref.ensures.value ∙ ap (λ v. v.terms) c.row.view_is ∙ read.1 in
-    subst (MultipleFits c.factor-item.result.at.monomial) (sym terms) (AllByRecursion-get _ _ _ _ c.requires.room read.0)
+    subst (HasRoom c.factor-item.result.at.monomial) (sym terms) (AllByRecursion-get _ _ _ _ c.requires.room read.0)
 
 pub loop-factor-preserved : goal.loop-factor-preserved
 loop-factor-preserved c =

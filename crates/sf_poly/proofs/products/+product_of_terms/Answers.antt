@@ -3,15 +3,16 @@ use Rattle.std.proofs.lemmas.List.{nil_from_length}
 use Rattle.sf_algebra.specs.Monomials.{monomial_cmp}
 use Rattle.sf_algebra.specs.Polynomials.{polynomial_product}
 use Rattle.sf_algebra.specs.Sums.{add}
+use Rattle.sf_algebra.proofs.Polynomials.{polynomial_product-nil, polynomial_product-one_term}
 use Rattle.sf_algebra.proofs.Slices.{only_item}
-use Rattle.sf_poly.proofs.PartProducts.{positive_from_residues, polynomial_product-none, polynomial_product-one_term, polynomial_product-halves}
+use Rattle.sf_poly.proofs.PartProducts.{positive_from_residues, polynomial_product-halves}
 use Rattle.sf_poly.proofs.products.+product_of_terms.Goals as goal
 
 pub returns-in-empty-clause-product : goal.returns-in-empty-clause-product
 returns-in-empty-clause-product t c =
     let none : length c.args.left.now ≡ 0 = omega arith in
     c.new.ensures.items
-    ∙ sym (polynomial_product-none c.args.modulus c.args.right.now)
+    ∙ sym (polynomial_product-nil c.args.modulus c.args.right.now)
     ∙ ap (λ l. polynomial_product c.args.modulus l c.args.right.now) (sym (nil_from_length c.args.left.now none))
 
 pub returns-in-len1-clause-product : goal.returns-in-len1-clause-product
@@ -19,7 +20,7 @@ returns-in-len1-clause-product t c =
     let one : length c.args.left.now ≡ 1 = omega arith in
     let positive = positive_from_residues c.args.modulus c.args.left.now (omega arith) c.requires.left in
     let product =
-    sym (polynomial_product-one_term c.args.modulus positive c.args.right.now c.t-item.result)
+    sym (polynomial_product-one_term c.args.modulus positive c.t-item.result c.args.right.now)
     ∙ ap (λ l. polynomial_product c.args.modulus l c.args.right.now) (sym (only_item c.args.left.now c.t-item.result one c.t-item.is)) in
     subst (λ l. IfOk c.multiple_of_terms.result (λ v. v.items ≡ l)) product c.multiple_of_terms.ensures.multiple
 
