@@ -6,6 +6,7 @@ pub mod Products
 pub mod Divisibility
 pub mod DivisibilityLaws
 pub mod Orders
+pub mod Equality
 pub mod OrderInWords
 pub mod Terms
 pub mod Sums

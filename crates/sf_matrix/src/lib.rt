@@ -6,6 +6,7 @@
 mod bounds;
 mod combinations;
 mod free;
+mod laws;
 mod list;
 mod matrix;
 mod name;
@@ -14,6 +15,7 @@ mod vector;
 
 pub use bounds::fits;
 pub use free::Free;
+pub use laws::{equal_matrices, equal_vectors};
 pub use list::List;
 pub use matrix::Matrix;
 pub use name::Name;

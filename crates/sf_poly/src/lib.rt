@@ -3,11 +3,13 @@
 //! Contracts see one as the modulus and the list of its terms, in the words of `sf_algebra`.
 #![tactic(auto)]
 
+mod laws;
 mod poly;
 mod products;
 mod sums;
 mod term;
 
+pub use laws::equal_polynomials;
 pub use poly::Poly;
 
 #[cfg(test)]
