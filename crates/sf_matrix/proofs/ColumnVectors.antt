@@ -1,6 +1,6 @@
 -- Turning columns into vectors, one after another.
-use Rattle.std.proofs.Common.{◌≡◌, ℕ, zero, suc, ◌+◌, ◌<◌, List, [], ◌∷◌, ◌++◌, length, map, drop, get_or, slice_set, length-set, neg_ℤ, ℤ, pos, refl, sym, ◌∙◌, ap, arith, append_assoc, append-nil, ◌≤◌}
-use Rattle.std.proofs.lemmas.List.{drop_more, drop-set-lt, get_or-drop, drop_all}
+use Rattle.std.proofs.Common.{◌≡◌, ℕ, suc, ◌+◌, ◌<◌, List, [], ◌∷◌, ◌++◌, length, map, drop, get_or, slice_set, length-set, neg_ℤ, ℤ, refl, sym, ◌∙◌, ap, arith, append_assoc, append-nil, ◌≤◌}
+use Rattle.std.proofs.lemmas.List.{drop_more, drop-set-lt, drop_all}
 use Rattle.std.specs.List.{AllByRecursion}
 use Rattle.std.specs.List.{AllByRecursion}
 use Rattle.sf_algebra.specs.Matrices.{Matrix, row_degrees}

@@ -1,9 +1,8 @@
 -- Tensor products of rows of matrices stand within bounds.
-use Rattle.std.proofs.Common.{◌≡◌, ℕ, suc, ◌+◌, ◌*◌, ◌<◌, ◌≤◌, List, length, map, ℤ, ◌+ℤ◌, arith}
+use Rattle.std.proofs.Common.{ℕ, ◌*◌, ◌<◌, ◌≤◌, List, length, map, ℤ, ◌+ℤ◌, arith}
 use Rattle.std.proofs.Math.Nat.{mul-le-mul_right}
 use Rattle.std.specs.List.{AllByRecursion}
-use Rattle.sf_algebra.specs.Terms.{Term}
-use Rattle.sf_algebra.specs.Vectors.{Place, Vector, IsVector}
+use Rattle.sf_algebra.specs.Vectors.{Vector, IsVector}
 use Rattle.sf_algebra.proofs.KroneckerVectors.{pair_below}
 use Rattle.sf_algebra.proofs.Lists.{AllByRecursion-weaken}
 use Rattle.sf_matrix.specs.Bounds.{IsDegree, SumsFit, PositionsFit}

@@ -1,13 +1,13 @@
 -- Products of terms of homogeneous vectors have room where degrees are within bounds.
-use Rattle.std.proofs.Common.{◌≡◌, ℕ, zero, suc, ◌+◌, ◌<◌, ◌≤◌, List, [], ◌∷◌, length, map, slice_index_or, ℤ, pos, ◌+ℤ◌, ◌≤ℤ◌, arith, subst, sym}
+use Rattle.std.proofs.Common.{◌≡◌, ℕ, ◌+◌, ◌≤◌, List, map, ℤ, pos, ◌+ℤ◌, ◌≤ℤ◌, arith, subst, sym}
 use Rattle.std.proofs.lemmas.Int.{ints}
 use Rattle.std.specs.List.{AllByRecursion}
 use Rattle.std.proofs.lemmas.Option.{slice_get-get_or}
 use Rattle.sf_algebra.specs.Matrices.{Matrix, IsMatrix, row_degrees}
 use Rattle.sf_algebra.specs.Monomials.{Monomial, GREATEST_SUM, exponent_sum}
 use Rattle.sf_algebra.specs.MatrixOperations.{row_at}
-use Rattle.sf_algebra.specs.Terms.{Term, IsNonzeroResidue}
-use Rattle.sf_algebra.specs.Vectors.{Place, Vector, IsVector, generator_degree}
+use Rattle.sf_algebra.specs.Terms.{IsNonzeroResidue}
+use Rattle.sf_algebra.specs.Vectors.{Vector, IsVector, generator_degree}
 use Rattle.sf_algebra.proofs.Degrees.{IsHomogeneous-row_at}
 use Rattle.sf_algebra.proofs.Lists.{AllByRecursion-get, AllByRecursion-weaken}
 use Rattle.sf_matrix.specs.Bounds.{CombinationFits, DegreeFits}

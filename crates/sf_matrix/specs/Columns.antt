@@ -1,5 +1,5 @@
 -- Steps of a transposition. They serve the contracts of private functions.
-use Rattle.std.specs.Prelude.{ℕ, zero, suc, List, [], ◌∷◌, ◌++◌, ℤ, neg_ℤ}
+use Rattle.std.specs.Prelude.{ℕ, suc, List, [], ◌∷◌, ◌++◌, ℤ, neg_ℤ}
 use Rattle.sf_algebra.specs.MatrixOperations.{at_position, column_terms}
 use Rattle.sf_algebra.specs.Terms.{Term}
 use Rattle.sf_algebra.specs.Vectors.{Place, Vector, entry}

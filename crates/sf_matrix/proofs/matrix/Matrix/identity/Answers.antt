@@ -1,4 +1,4 @@
-use Rattle.std.proofs.Common.{◌≡◌, ◌++◌, sym, ap, ◌∙◌, refl, append-nil, arith}
+use Rattle.std.proofs.Common.{◌++◌, sym, ap, ◌∙◌, refl, append-nil}
 use Rattle.std.proofs.lemmas.List.{drop_all}
 use Rattle.sf_algebra.specs.MatrixOperations.{unit_rows, identity}
 use Rattle.sf_algebra.proofs.Identities.{IsMatrix-identity}

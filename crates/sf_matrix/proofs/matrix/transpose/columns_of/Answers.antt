@@ -1,4 +1,4 @@
-use Rattle.std.proofs.Common.{◌≡◌, ◌<◌, refl, sym, ap, subst, ◌∙◌, length, take}
+use Rattle.std.proofs.Common.{◌<◌, refl, sym, ap, subst, ◌∙◌, length, take}
 use Rattle.std.specs.List.{AllByRecursion}
 use Rattle.std.proofs.lemmas.Option.{slice_get_read}
 use Rattle.sf_algebra.specs.Terms.{Term}

@@ -1,4 +1,4 @@
-use Rattle.std.proofs.Common.{◌≡◌, ◌++◌, ◌∷◌, ◌+◌, [], ap, ◌∙◌, drop}
+use Rattle.std.proofs.Common.{◌++◌, ◌∷◌, ◌+◌, [], ap, ◌∙◌, drop}
 use Rattle.sf_matrix.specs.Columns.{column_lists}
 use Rattle.sf_matrix.proofs.Entering.{column_lists-empty}
 use Rattle.sf_matrix.proofs.matrix.transpose.empty_columns.Goals as goal

@@ -1,4 +1,4 @@
-use Rattle.std.proofs.Common.{◌≡◌, ◌<◌, ◌+◌, refl, sym, ap, subst, ◌∙◌, length, rules, arith, get_or, slice_set, ◌++◌, ◌∷◌, []}
+use Rattle.std.proofs.Common.{◌≡◌, ◌<◌, ◌+◌, refl, sym, ap, ◌∙◌, length, rules, arith, get_or, slice_set, ◌++◌, ◌∷◌, []}
 use Rattle.std.proofs.lemmas.Option.{slice_get_read}
 use Rattle.sf_algebra.proofs.Lists.{AllByRecursion-get, take-slice_get}
 use Rattle.sf_matrix.specs.Columns.{entered}

@@ -1,4 +1,4 @@
-use Rattle.std.proofs.Common.{◌≡◌, ◌++◌, ◌∷◌, [], get_or, slice_set, neg_ℤ, pos, ◌+◌, to_z, of_z, w32, rules, refl, sym, ap, subst, ◌∙◌}
+use Rattle.std.proofs.Common.{◌≡◌, ◌++◌, ◌∷◌, [], get_or, slice_set, neg_ℤ, pos, ◌+◌, to_z, of_z, w32, rules, sym, subst, ◌∙◌}
 use Rattle.sf_matrix.proofs.ColumnVectors.{IsTurning, IsTurning-next}
 use Rattle.sf_matrix.proofs.matrix.transpose.rows_of.Goals as goal
 
