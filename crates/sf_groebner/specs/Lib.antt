@@ -1,0 +1,9 @@
+pub mod Leads
+pub mod Spans
+pub mod ReducedBases
+pub mod Small
+pub mod Lifts
+pub mod MinimalGenerators
+pub mod Presentations
+pub mod Homology
+pub mod Resolutions

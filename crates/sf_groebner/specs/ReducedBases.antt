@@ -1,0 +1,69 @@
+-- Reduced bases of a module of vectors. (Cox, Little, O'Shea, "Using Algebraic Geometry", chapter 5, section 2.) A module is
+-- given by the predicate that its vectors meet. The order of the rows is this project's own.
+use Rattle.std.specs.Prelude.{◌≡◌, ◌&&◌, Bool, false, ℕ, List, [], ◌∷◌, IsTrue, IsFalse}
+use Rattle.std.specs.declared.cmp.Ordering.{Ordering}
+use Rattle.std.specs.declared.cmp.Ordering.TheVariants.{Less, Equal}
+use Rattle.std.specs.List.{AllByRecursion, list_any}
+use Rattle.std.specs.Ordering.{int_cmp, ordering_then}
+use Rattle.sf_algebra.specs.Terms.{Term}
+use Rattle.sf_algebra.specs.Vectors.{Place, Vector, place_cmp}
+use Rattle.sf_groebner.specs.Leads.{place_divides}
+
+-- whether the first term of a list, its lead, divides what stands at k; 0 has no lead
+abbrev pub lead_divides : List (Term Place) → Place → Bool
+lead_divides [] k = false
+lead_divides (t ∷ ts) k = place_divides t.at k
+
+-- whether the lead of one of the vectors divides what stands at k
+abbrev pub is_divided : List Vector → Place → Bool
+is_divided vs k = list_any (λ (v : Vector). lead_divides v.terms k) vs
+
+-- a list has a lead, and its coefficient is 1
+abbrev pub IsMonic : List (Term Place) → Type 0
+IsMonic [] = ⊥
+IsMonic (t ∷ ts) = t.coefficient ≡ 1
+
+-- the lead of a list, where there is one, is divided by the lead of one of the vectors
+abbrev pub HasDividedLead : List Vector → List (Term Place) → Type 0
+HasDividedLead vs [] = Unit {0}
+HasDividedLead vs (t ∷ ts) = IsTrue (is_divided vs t.at)
+
+-- no term is divided by the lead of one of the vectors
+abbrev pub IsReducedBy : List Vector → List (Term Place) → Type 0
+IsReducedBy vs ts = AllByRecursion (λ (t : Term Place). IsFalse (is_divided vs t.at)) ts
+
+-- no term of one of two vectors is divided by the lead of the other
+abbrev pub AreApart : Vector → Vector → Type 0
+AreApart v w = IsReducedBy (w ∷ []) v.terms × IsReducedBy (v ∷ []) w.terms
+
+-- no term of one vector of a list is divided by the lead of another
+abbrev pub IsApart : List Vector → Type 0
+IsApart [] = Unit {0}
+IsApart (v ∷ vs) = AllByRecursion (AreApart v) vs × IsApart vs
+
+-- how the leads of two lists compare, where both have one
+abbrev pub lead_cmp : List (Term Place) → List (Term Place) → Ordering
+lead_cmp [] us = Equal
+lead_cmp (t ∷ ts) [] = Equal
+lead_cmp (t ∷ ts) (u ∷ us) = place_cmp t.at u.at
+
+-- the order of rows: a smaller degree first; in one degree a greater lead first
+abbrev pub row_cmp : Vector → Vector → Ordering
+row_cmp v w = ordering_then (int_cmp v.degree w.degree) (lead_cmp w.terms v.terms)
+
+-- each row comes before those after it
+abbrev pub IsSorted : List Vector → Type 0
+IsSorted [] = Unit {0}
+IsSorted (v ∷ vs) = AllByRecursion (λ (w : Vector). row_cmp v w ≡ Less) vs × IsSorted vs
+
+-- the reduced basis of a module N
+pub record IsReducedBasis (N : Vector → Type 0) (basis : List Vector) : Type 0 where
+  -- its vectors are in N
+  pub inside : AllByRecursion N basis
+  -- none is 0, and each lead has the coefficient 1
+  pub monic : AllByRecursion (λ (v : Vector). IsMonic v.terms) basis
+  -- each lead of N is divided by the lead of one of them
+  pub complete : (v : Vector) → N v → HasDividedLead basis v.terms
+  -- none of their terms is divided by the lead of another
+  pub apart : IsApart basis
+  pub sorted : IsSorted basis
