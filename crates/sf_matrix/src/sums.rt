@@ -10,13 +10,14 @@ use std::cmp::Ordering;
 
 impl Term {
     /// Compares where two terms stand: an earlier generator is greater, and at one generator the monomials decide.
+    #[inline]
     pub fn cmp_place(&self, other: &Term) -> Ordering
         ensures { result ≡ place_cmp self.now.at other.now.at }
     {
-        other
-            .position
-            .cmp(&self.position)
-            .then(self.monomial.cmp(&other.monomial))
+        match other.position.cmp(&self.position) {
+            Ordering::Equal => self.monomial.cmp(&other.monomial),
+            unequal => unequal,
+        }
     }
 }
 
@@ -43,7 +44,7 @@ pub fn add_terms(
     ensures sum { IfOk result (λ v. v.items ≡ add place_cmp modulus left.now right.now) }
     ensures canonical { IfOk result (λ v. IsCanonical place_cmp modulus v.items) }
 {
-    let mut sum = Vec::new(alloc);
+    let mut sum = Vec::with_capacity(alloc, left.len().saturating_add(right.len()))?;
     while let ([t, ts @ ..], [u, us @ ..]) = (left, right) {
         match t.cmp_place(u) {
             Ordering::Greater => {

@@ -24,8 +24,8 @@ pub fn multiple_of_terms(
     ensures multiple { IfOk result (λ v. v.items ≡ multiple monomial_cmp product modulus factor.now terms.now) }
     ensures canonical { IfOk result (λ v. IsCanonical monomial_cmp modulus v.items) }
 {
-    // a prime, so that no product is 0
-    let _p = modulus.value();
+    // the modulus is a prime, so that no product is 0
+    modulus.facts();
     let mut products = Vec::with_capacity(alloc, terms.len())?;
     for term in terms {
         products.push(term.times(modulus, factor))?;
