@@ -11,6 +11,12 @@ ordering_then-Greater Less p e = cc
 ordering_then-Greater Equal p e = inr (refl, e)
 ordering_then-Greater Greater p e = inl refl
 
+-- where they find the first value less, one of them does
+pub ordering_then-Less : (o p : Ordering) → ordering_then o p ≡ Less → (o ≡ Less) ⊎ ((o ≡ Equal) × (p ≡ Less))
+ordering_then-Less Less p e = inl refl
+ordering_then-Less Equal p e = inr (refl, e)
+ordering_then-Less Greater p e = cc
+
 pub nat_cmp-lt : (m n : ℕ) → m < n → nat_cmp m n ≡ Less
 nat_cmp-lt m n h = grind (arith, nat_tests)
 
