@@ -1,1 +1,4 @@
 pub mod Accessible
+pub mod Images
+pub mod Gather
+pub mod TopCoefficients
