@@ -56,6 +56,7 @@ pub mod GroupLaws
 pub mod Combinations
 pub mod PrimeMultiples
 pub mod CombinationLaws
+pub mod SameTotals
 pub mod Associativity
 pub mod Polynomials
 pub mod Rows

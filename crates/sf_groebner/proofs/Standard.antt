@@ -1,0 +1,119 @@
+-- The theorem behind Buchberger's criterion and Schreyer's theorem: where pairs of places with one image are settled by a
+-- module S of combinations that are 0, each combination is in S, or begins at the image of some place. (Cox, Little, O'Shea,
+-- "Using Algebraic Geometry", chapter 5, sections 2 and 3.)
+use Rattle.std.proofs.Common.{◌≡◌, ◌≢◌, ◌⊎◌, inl, inr, ⊎_elim, ℕ, zero, suc, ◌<◌, List, [], ◌∷◌, ◌++◌, refl, sym, ◌∙◌, ap, subst}
+use Rattle.std.proofs.lemmas.Cmp.{tied_itself}
+use Rattle.std.specs.declared.cmp.Ordering.{Ordering}
+use Rattle.std.specs.declared.cmp.Ordering.TheVariants.{Less, Equal, Greater}
+use Rattle.std.specs.Ordering.{ordering_reverse}
+use mathlib.Core.WellFounded.{Acc}
+use Rattle.sf_algebra.specs.MatrixOperations.{row_at, row_combination}
+use Rattle.sf_algebra.specs.Multiples.{place_product}
+use Rattle.sf_algebra.specs.Sums.{add, total, coefficient_at}
+use Rattle.sf_algebra.specs.Terms.{Term}
+use Rattle.sf_algebra.specs.Vectors.{Place, Vector, place_cmp}
+use Rattle.sf_algebra.proofs.Keys.{place_keys}
+use Rattle.sf_algebra.proofs.Lists.{AllByRecursion-weaken}
+use Rattle.sf_algebra.proofs.Normal.{EachPlace}
+use Rattle.sf_algebra.proofs.Orders.{ordering_cases, place_cmp-Equal, place_cmp_total, place_cmp_linear}
+use Rattle.sf_algebra.proofs.Rows.{IsCanonical-row_combination, row_combination-append}
+use Rattle.sf_algebra.proofs.SameTotals.{SameTotals, SameTotals-append, SameTotals-refl, SameTotals-sym, SameTotals-trans, SameTotals-zero, combination-SameTotals}
+use Rattle.sf_algebra.proofs.Sums.{add-nil}
+use Rattle.sf_groebner.proofs.Accessible.{IsBelow, place_acc}
+use Rattle.sf_groebner.proofs.Gather.{IsGathered, gather}
+use Rattle.sf_groebner.proofs.Images.{HasLeads, IsAllSettled, IsAtMost, IsModule, IsUnder, image, top_part}
+use Rattle.sf_groebner.proofs.TopCoefficients.{Begins, begins_at, coefficient_at-top, row_combination-at_most}
+
+-- induction over the places with positions below n
+pub place_induction : (n : ℕ) (P : Place → Type 0) → ((k : Place) → ((j : Place) → IsBelow n j k → P j) → P k) → (k : Place) → P k
+place_induction n P step k = down k (place_acc n k)
+  where
+    down : (k : Place) → Acc (IsBelow n) k → P k
+    down k (Acc.intro l h) = step l (λ j below. down j (h j below))
+
+-- what is not greater than k is less than what k is less than
+pub not_greater_less : (j k b : Place) → place_cmp j k ≢ Greater → place_cmp k b ≡ Less → place_cmp j b ≡ Less
+not_greater_less j k b most less =
+    ordering_cases (place_cmp j k)
+    (λ below. place_cmp_total.trans j k b below less)
+    (λ equal. subst (λ l. place_cmp l b ≡ Less) (sym (place_cmp-Equal j k equal)) less)
+    (λ greater. absurd (most greater))
+
+not_greater : (o : Ordering) → o ≡ Less → o ≢ Greater
+not_greater o less greater = cc
+
+not_greater_itself : (k : Place) → place_cmp k k ≢ Greater
+not_greater_itself k greater = let e = tied_itself place_cmp_total k in cc
+
+-- a place of the list whose image no other's exceeds, unless the list is empty
+pub greatest : (P In : Place → Type 0) (lead : ℕ → Place) (c : List (Term Place)) → EachPlace (λ k. In k × P k) c
+    → (c ≡ []) ⊎ ((r : Place) × In r × P r × EachPlace (IsAtMost In lead (image lead r)) c)
+greatest P In lead [] h = inl refl
+greatest P In lead (t ∷ ts) h =
+    ⊎_elim
+    (λ (none : ts ≡ []). inr (t.at, h.0.0, h.0.1, ((h.0.0, not_greater_itself (image lead t.at)), subst (EachPlace (IsAtMost In lead (image lead t.at))) (sym none) tt)))
+    (λ (found : (r : Place) × In r × P r × EachPlace (IsAtMost In lead (image lead r)) ts).
+    ordering_cases (place_cmp (image lead t.at) (image lead found.0))
+    (λ less. inr (found.0, found.1, found.2, ((h.0.0, not_greater _ less), found.3)))
+    (λ equal. inr (found.0, found.1, found.2, ((h.0.0, λ greater. cc), found.3)))
+    (λ greater.
+    let less : place_cmp (image lead found.0) (image lead t.at) ≡ Less = place_cmp_total.antisymm (image lead found.0) (image lead t.at) ∙ ap ordering_reverse greater in
+    inr
+    (t.at, h.0.0, h.0.1,
+    ((h.0.0, not_greater_itself (image lead t.at)),
+    AllByRecursion-weaken _ _ (λ u k. (k.0, not_greater _ (not_greater_less (image lead u.at) (image lead found.0) (image lead t.at) k.1 less))) ts found.3))))
+    (greatest P In lead ts h.1)
+
+module _ (p n : ℕ) (positive : 0 < p) (In : Place → Type 0) (rows : List Vector) (lead : ℕ → Place) (leads : HasLeads n In rows lead) (S : List (Term Place) → Type 0) (is_module : IsModule p S) where
+  -- a combination is in S, or begins at the image of a place
+  abbrev pub IsStandard : List (Term Place) → Type 0
+  IsStandard c = S c ⊎ ((k : Place) × In k × Begins (image lead k) (row_combination p rows c))
+
+  module _ (settled : IsAllSettled p In lead S) (is_zero : (s : List (Term Place)) → S s → row_combination p rows s ≡ []) where
+    -- a member of S more changes nothing
+    standard-append : (c d s : List (Term Place)) → SameTotals p c (d ++ s) → S s → IsStandard d → IsStandard c
+    standard-append c d s same inside h =
+        ⊎_elim
+        (λ (member : S d). inl (is_module.has_same (d ++ s) c (SameTotals-sym p same) (is_module.has_sums d s member inside)))
+        (λ (found : (k : Place) × In k × Begins (image lead k) (row_combination p rows d)).
+        inr (found.0, found.1, subst (Begins (image lead found.0)) (sym value) found.2))
+        h
+      where
+        value : row_combination p rows c ≡ row_combination p rows d
+        value =
+            combination-SameTotals place_keys p positive (λ k. k.monomial) (λ k. row_at rows k.position) same
+            ∙ row_combination-append p positive rows d s
+            ∙ ap (add place_cmp p (row_combination p rows d)) (is_zero s inside)
+            ∙ add-nil place_cmp place_cmp_linear p positive (row_combination p rows d) (IsCanonical-row_combination p positive rows d)
+
+    -- what holds of all combinations whose images are at most b
+    abbrev IsStandardUpTo : Place → Type 0
+    IsStandardUpTo b = (r : Place) → In r → image lead r ≡ b → (c : List (Term Place)) → EachPlace (IsAtMost In lead b) c → IsStandard c
+
+    standard_step : (b : Place) → ((j : Place) → IsBelow n j b → IsStandardUpTo j) → IsStandardUpTo b
+    standard_step b before r inside e c most =
+        by_coefficient (total p (top_part lead b) c) (coefficient_at-top p n In rows lead leads b c most) (gather p In lead S is_module r b settled inside e c most)
+      where
+        by_coefficient : (y : ℕ) → coefficient_at place_cmp p b (row_combination p rows c) ≡ y → IsGathered p In lead S r b c y → IsStandard c
+        by_coefficient zero top gathered =
+            standard-append c gathered.lower gathered.rest
+            (SameTotals-trans p gathered.same (SameTotals-append p (SameTotals-refl p gathered.lower) (SameTotals-zero p r gathered.rest)))
+            gathered.inside
+            (⊎_elim
+            (λ (none : gathered.lower ≡ []). inl (subst S (sym none) is_module.has_none))
+            (λ (found : (q : Place) × In q × (place_cmp (image lead q) b ≡ Less) × EachPlace (IsAtMost In lead (image lead q)) gathered.lower).
+            before (image lead found.0) (found.2, leads.column found.0 found.1) found.0 found.1 refl gathered.lower found.3)
+            (greatest (λ k. place_cmp (image lead k) b ≡ Less) In lead gathered.lower gathered.under))
+        by_coefficient (suc x) top gathered =
+            inr
+            (r, inside,
+            subst (λ l. Begins l (row_combination p rows c)) (sym e)
+            (begins_at p b (row_combination p rows c) x (IsCanonical-row_combination p positive rows c) (row_combination-at_most p n In rows lead leads b c most) top))
+
+    pub standard : (c : List (Term Place)) → EachPlace In c → IsStandard c
+    standard c h =
+        ⊎_elim
+        (λ (none : c ≡ []). inl (subst S (sym none) is_module.has_none))
+        (λ (found : (r : Place) × In r × Unit {0} × EachPlace (IsAtMost In lead (image lead r)) c).
+        place_induction n IsStandardUpTo standard_step (image lead found.0) found.0 found.1 refl c found.3)
+        (greatest (λ _. Unit {0}) In lead c (AllByRecursion-weaken _ _ (λ t k. (k, tt)) c h))

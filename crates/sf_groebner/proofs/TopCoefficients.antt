@@ -1,0 +1,110 @@
+-- The coefficient of a combination at the greatest image of its places: the sum of the coefficients that have that image.
+use Rattle.std.proofs.Common.{◌≡◌, ◌≢◌, ℕ, suc, ◌%◌, List, [], ◌∷◌, if◌then◌else◌, Bool, true, false, map, refl, sym, ◌∙◌, ap, subst}
+use Rattle.std.proofs.Math.Nat.{zero-mod}
+use Rattle.std.specs.declared.cmp.Ordering.{Ordering}
+use Rattle.std.specs.declared.cmp.Ordering.TheVariants.{Less, Greater}
+use Rattle.std.specs.Ordering.{is_eq}
+use Rattle.sf_algebra.specs.MatrixOperations.{row_at, row_combination}
+use Rattle.sf_algebra.specs.Multiples.{place_product, term_product, combination_terms, combination}
+use Rattle.sf_algebra.specs.Residues.{sum_mod, product_mod}
+use Rattle.sf_algebra.specs.Sums.{total, part_at, coefficient_at}
+use Rattle.sf_algebra.specs.Terms.{Term, IsCanonical}
+use Rattle.sf_algebra.specs.Vectors.{Place, Vector, place_cmp}
+use Rattle.sf_algebra.proofs.Coefficients.{coefficient_at-above}
+use Rattle.sf_algebra.proofs.Combinations.{coefficient_at-combination, factor, share}
+use Rattle.sf_algebra.proofs.DoubleTotals.{total-each, total-zero}
+use Rattle.sf_algebra.proofs.Keys.{place_keys}
+use Rattle.sf_algebra.proofs.Lists.{AllByRecursion-append, AllByRecursion-weaken}
+use Rattle.sf_algebra.proofs.Normal.{EachPlace, EachPlace-normal}
+use Rattle.sf_algebra.proofs.Orders.{ordering_cases, place_cmp-Equal, place_cmp_total}
+use Rattle.sf_algebra.proofs.Places.{place_cmp-place_product}
+use Rattle.sf_algebra.proofs.Residues.{product_mod-one, sum_mod-first, sum_mod-zero}
+use Rattle.sf_algebra.proofs.Totals.{total-cons, total-nil, total-reduced}
+use Rattle.sf_groebner.proofs.Images.{HasLeads, IsAtMost, image, top_part}
+
+-- a list begins at b, with some coefficient
+pub record Begins (b : Place) (v : List (Term Place)) : Type 0 where
+  pub coefficient : ℕ
+  pub tail : List (Term Place)
+  pub shape : v ≡ record { at = b; coefficient = coefficient } ∷ tail
+
+-- what is less than k is less than what k is not greater than
+pub less_not_greater : (j k b : Place) → place_cmp j k ≡ Less → place_cmp k b ≢ Greater → place_cmp j b ≡ Less
+less_not_greater j k b less most =
+    ordering_cases (place_cmp k b)
+    (λ below. place_cmp_total.trans j k b less below)
+    (λ equal. subst (λ l. place_cmp j l ≡ Less) (place_cmp-Equal k b equal) less)
+    (λ greater. absurd (most greater))
+
+-- a canonical list no place of which is greater than b, and which has a coefficient at b, begins there
+pub begins_at : (p : ℕ) (b : Place) (v : List (Term Place)) (x : ℕ) → IsCanonical place_cmp p v → EachPlace (λ k. place_cmp k b ≢ Greater) v → coefficient_at place_cmp p b v ≡ suc x → Begins b v
+begins_at p b [] x canonical most some = let none = total-nil p (part_at place_cmp b) in absurd (no_suc x (sym none ∙ some))
+  where
+    no_suc : (n : ℕ) → 0 ≢ suc n
+    no_suc n e = cc
+begins_at p b (t ∷ ts) x canonical most some =
+    ordering_cases (place_cmp t.at b)
+    (λ less.
+    absurd (no_suc x
+    (sym (coefficient_at-above place_cmp p b (t ∷ ts) (less, AllByRecursion-weaken _ _ (λ u h. place_cmp_total.trans u.at t.at b h less) ts canonical.descending.0)) ∙ some)))
+    (λ equal. record { coefficient = t.coefficient; tail = ts; shape = λ i. record { at = place_cmp-Equal t.at b equal i; coefficient = t.coefficient } ∷ ts })
+    (λ greater. absurd (most.0 greater))
+  where
+    no_suc : (n : ℕ) → 0 ≢ suc n
+    no_suc n e = cc
+
+-- a fact of each product of a coefficient with a place of its row is one of each place of the combination
+pub EachPlace-row_combination : (P : Place → Type 0) (p : ℕ) (rows : List Vector) (c : List (Term Place))
+    → EachPlace (λ k. EachPlace (λ l. P (place_product k.monomial l)) (row_at rows k.position)) c → EachPlace P (row_combination p rows c)
+unfolding combination combination_terms
+EachPlace-row_combination P p rows c h = EachPlace-normal P place_cmp p _ (each c h)
+  where
+    products : (t : Term Place) (us : List (Term Place)) → EachPlace (λ l. P (place_product t.at.monomial l)) us
+        → EachPlace P (map (term_product place_product p (record { at = t.at.monomial; coefficient = t.coefficient })) us)
+    products t [] h = tt
+    products t (u ∷ us) h = (h.0, products t us h.1)
+
+    each : (c : List (Term Place)) → EachPlace (λ k. EachPlace (λ l. P (place_product k.monomial l)) (row_at rows k.position)) c
+        → EachPlace P (combination_terms place_product p (λ (k : Place). k.monomial) (λ (k : Place). row_at rows k.position) c)
+    each [] h = tt
+    each (t ∷ c) h = AllByRecursion-append _ _ _ (products t (row_at rows t.at.position) h.0) (each c h.1)
+
+module _ (p n : ℕ) (In : Place → Type 0) (rows : List Vector) (lead : ℕ → Place) (leads : HasLeads n In rows lead) (b : Place) where
+  -- no place of a combination is greater than the greatest image
+  pub row_combination-at_most : (c : List (Term Place)) → EachPlace (IsAtMost In lead b) c → EachPlace (λ k. place_cmp k b ≢ Greater) (row_combination p rows c)
+  row_combination-at_most c h =
+      EachPlace-row_combination _ p rows c
+      (AllByRecursion-weaken _ _
+      (λ t k.
+      subst (EachPlace (λ l. place_cmp (place_product t.at.monomial l) b ≢ Greater)) (sym (leads.shape t.at k.0))
+      (k.1, AllByRecursion-weaken _ _ (λ u less greater. not_both _ (less_not_greater _ _ b (place_cmp-place_product t.at.monomial u.at (lead t.at.position) ∙ less) k.1) greater) (leads.tail t.at.position) (leads.low t.at k.0)))
+      c h)
+    where
+      not_both : (o : Ordering) → o ≡ Less → o ≢ Greater
+      not_both o less greater = cc
+
+  share-top : (t : Term Place) → IsAtMost In lead b t.at → share place_product p (λ k. k.monomial) (λ k. row_at rows k.position) (part_at place_cmp b) t % p ≡ top_part lead b t % p
+  share-top t h =
+      let g = λ (u : Term Place). part_at place_cmp b (term_product place_product p (factor (λ k. k.monomial) t) u) in
+      ap (λ us. total p g us % p) (leads.shape t.at h.0)
+      ∙ total-reduced p g _
+      ∙ total-cons p g _ (leads.tail t.at.position)
+      ∙ ap (sum_mod p (g (record { at = lead t.at.position; coefficient = 1 }))) none
+      ∙ sum_mod-zero p _
+      ∙ chosen (is_eq (place_cmp (image lead t.at) b))
+    where
+      chosen : (e : Bool) → (if e then product_mod p t.coefficient 1 else 0) % p ≡ (if e then t.coefficient else 0) % p
+      chosen true = sym (sum_mod-zero p _) ∙ ap (λ n. sum_mod p n 0) (product_mod-one p t.coefficient) ∙ sum_mod-first p t.coefficient 0 ∙ sum_mod-zero p t.coefficient
+      chosen false = refl
+
+      none : total p (λ (u : Term Place). part_at place_cmp b (term_product place_product p (factor (λ k. k.monomial) t) u)) (leads.tail t.at.position) ≡ 0
+      none =
+          total-each p _ (λ u. 0) (leads.tail t.at.position)
+          (AllByRecursion-weaken _ _ (λ u less. ap (λ o. (if is_eq o then product_mod p t.coefficient u.coefficient else 0) % p)
+          (less_not_greater _ _ b (place_cmp-place_product t.at.monomial u.at (lead t.at.position) ∙ less) h.1)) (leads.tail t.at.position) (leads.low t.at h.0))
+          ∙ total-zero p (λ u. 0) (leads.tail t.at.position) (λ u. zero-mod p)
+
+  pub coefficient_at-top : (c : List (Term Place)) → EachPlace (IsAtMost In lead b) c → coefficient_at place_cmp p b (row_combination p rows c) ≡ total p (top_part lead b) c
+  coefficient_at-top c h =
+      coefficient_at-combination place_keys p (λ k. k.monomial) (λ k. row_at rows k.position) b c
+      ∙ total-each p _ (top_part lead b) c (AllByRecursion-weaken _ _ share-top c h)
