@@ -1,3 +1,4 @@
 pub mod Accessible
 pub mod Dickson
 pub mod PlaceDivisors
+pub mod Propositions
