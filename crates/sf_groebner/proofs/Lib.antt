@@ -2,3 +2,9 @@ pub mod Accessible
 pub mod Dickson
 pub mod PlaceDivisors
 pub mod Propositions
+pub mod Items
+pub mod Differences
+pub mod Modules
+pub mod Apart
+pub mod Sorted
+pub mod UniqueBases
