@@ -5,3 +5,10 @@ pub mod Images
 pub mod Gather
 pub mod TopCoefficients
 pub mod Standard
+pub mod Propositions
+pub mod Items
+pub mod Differences
+pub mod Modules
+pub mod Apart
+pub mod Sorted
+pub mod UniqueBases

@@ -1,0 +1,75 @@
+-- What is asked of vectors and of bases is met in at most one way.
+use Rattle.std.proofs.Common.{ℕ, List, [], ◌∷◌, ℤ}
+use Rattle.std.proofs.Props.{props}
+use Rattle.std.specs.declared.cmp.Ordering.{Ordering}
+use Rattle.std.specs.List.{AllByRecursion-prop}
+use Rattle.sf_algebra.specs.Matrices.{Matrix, IsMatrix}
+use Rattle.sf_algebra.specs.Terms.{Term, IsDescending, IsCanonical}
+use Rattle.sf_algebra.specs.Vectors.{Place, Vector, place_cmp, IsVector}
+use Rattle.sf_groebner.specs.ReducedBases.{IsMonic, HasDividedLead, IsReducedBy, IsApart, IsSorted, IsReducedBasis}
+use Rattle.sf_groebner.specs.Small.{HasLeadUpTo, IsWithinLimit, HasSmallSize, IsSmall, IsLarge}
+use Rattle.sf_groebner.specs.Spans.{IsSyzygy, IsGraphVector}
+
+IsDescending-prop : {K : Type 0} (cmp : K → K → Ordering) (ts : List (Term K)) → IsProp (IsDescending cmp ts)
+IsDescending-prop cmp [] = hlevel props
+IsDescending-prop cmp (t ∷ ts) = let rest = IsDescending-prop cmp ts in hlevel (props, rest)
+
+pub IsCanonical-prop : {K : Type 0} (cmp : K → K → Ordering) (p : ℕ) (ts : List (Term K)) → IsProp (IsCanonical cmp p ts)
+IsCanonical-prop cmp p ts = let descending = IsDescending-prop cmp ts in hlevel (props, descending)
+
+pub IsVector-prop : (p : ℕ) (degrees : List ℤ) (v : Vector) → IsProp (IsVector p degrees v)
+IsVector-prop p degrees v = let canonical = IsCanonical-prop place_cmp p v.terms in hlevel (props, canonical)
+
+pub IsMatrix-prop : (m : Matrix) → IsProp (IsMatrix m)
+IsMatrix-prop m = AllByRecursion-prop _ (IsVector-prop m.modulus m.target) m.rows
+
+pub IsSyzygy-prop : (m : Matrix) (c : Vector) → IsProp (IsSyzygy m c)
+IsSyzygy-prop m c = hlevel (props, IsVector-prop)
+
+pub IsGraphVector-prop : (m : Matrix) (w : Vector) → IsProp (IsGraphVector m w)
+IsGraphVector-prop m w = hlevel (props, IsVector-prop)
+
+pub IsMonic-prop : (ts : List (Term Place)) → IsProp (IsMonic ts)
+IsMonic-prop [] = hlevel props
+IsMonic-prop (t ∷ ts) = hlevel props
+
+HasDividedLead-prop : (vs : List Vector) (ts : List (Term Place)) → IsProp (HasDividedLead vs ts)
+HasDividedLead-prop vs [] = hlevel props
+HasDividedLead-prop vs (t ∷ ts) = hlevel props
+
+pub IsReducedBy-prop : (vs : List Vector) (ts : List (Term Place)) → IsProp (IsReducedBy vs ts)
+IsReducedBy-prop vs ts = hlevel props
+
+pub IsApart-prop : (vs : List Vector) → IsProp (IsApart vs)
+IsApart-prop [] = hlevel props
+IsApart-prop (v ∷ vs) = let rest = IsApart-prop vs in hlevel (props, rest)
+
+pub IsSorted-prop : (vs : List Vector) → IsProp (IsSorted vs)
+IsSorted-prop [] = hlevel props
+IsSorted-prop (v ∷ vs) = let rest = IsSorted-prop vs in hlevel (props, rest)
+
+-- the reduced basis of a module that is given by a proposition
+pub IsReducedBasis-prop : (N : Vector → Type 0) → ((v : Vector) → IsProp (N v)) → (basis : List Vector) → IsProp (IsReducedBasis N basis)
+IsReducedBasis-prop N each basis = hlevel (props, each, IsMonic-prop, HasDividedLead-prop, IsApart-prop, IsSorted-prop)
+
+HasLeadUpTo-prop : (limit : ℕ) (ts : List (Term Place)) → IsProp (HasLeadUpTo limit ts)
+HasLeadUpTo-prop limit [] = hlevel props
+HasLeadUpTo-prop limit (t ∷ ts) = hlevel props
+
+pub IsWithinLimit-prop : (limit : ℕ) (basis : List Vector) → IsProp (IsWithinLimit limit basis)
+IsWithinLimit-prop limit basis = hlevel (props, HasLeadUpTo-prop)
+
+pub HasSmallSize-prop : (m : Matrix) → IsProp (HasSmallSize m)
+HasSmallSize-prop m = hlevel props
+
+pub syzygy_basis-prop : (m : Matrix) (basis : List Vector) → IsProp (IsReducedBasis (IsSyzygy m) basis)
+syzygy_basis-prop m = IsReducedBasis-prop (IsSyzygy m) (IsSyzygy-prop m)
+
+pub graph_basis-prop : (m : Matrix) (basis : List Vector) → IsProp (IsReducedBasis (IsGraphVector m) basis)
+graph_basis-prop m = IsReducedBasis-prop (IsGraphVector m) (IsGraphVector-prop m)
+
+pub IsSmall-prop : (limit : ℕ) (m : Matrix) (basis : List Vector) → IsProp (IsSmall limit m basis)
+IsSmall-prop limit m basis = hlevel (HasSmallSize-prop, graph_basis-prop, IsWithinLimit-prop)
+
+pub IsLarge-prop : (limit : ℕ) (m : Matrix) → IsProp (IsLarge limit m)
+IsLarge-prop limit m = hlevel props
