@@ -3,6 +3,7 @@ pub mod GroupMaps
 pub mod Subgroups
 pub mod Congruences
 pub mod Quotients
+pub mod Correspondences
 pub mod Lists
 pub mod Descending
 pub mod MonomialEquality
