@@ -4,6 +4,8 @@ pub mod Subgroups
 pub mod Congruences
 pub mod Quotients
 pub mod Correspondences
+pub mod Coordinates
+pub mod GroupHomology
 pub mod Lists
 pub mod Descending
 pub mod MonomialEquality
