@@ -1,8 +1,8 @@
 -- Coordinates of elements by generators of N modulo B: c with v equal to the combination of the generators by c. They are
 -- determined up to a relation of the generators.
-use Rattle.std.proofs.Common.{◌≡◌, sym, ◌∙◌, ap, subst}
+use Rattle.std.proofs.Common.{◌≡◌, sym, subst}
 use Rattle.sf_algebra.specs.Groups.{Group, IsSub, IsMap, Mod, IsWithin, Whole, PreimageOf}
-use Rattle.sf_algebra.proofs.Congruences.{Mod-refl, Mod-sym, Mod-trans, Mod-equal, Mod-plus, Mod-minus, Mod-act, Mod-inside, Mod-map, Mod-PreimageOf}
+use Rattle.sf_algebra.proofs.Congruences.{Mod-refl, Mod-sym, Mod-trans, Mod-plus, Mod-minus, Mod-act, Mod-inside, Mod-map, Mod-PreimageOf}
 use Rattle.sf_algebra.proofs.Correspondences.{IsCorrespondence, IsMapOfClasses, converse}
 use Rattle.sf_algebra.proofs.Groups.{map-minus}
 use Rattle.sf_algebra.proofs.Subgroups.{PreimageOf-sub}

@@ -1,9 +1,9 @@
 -- Correspondences of quotients Z / B and Y / A: relations of their elements that keep sums. A correspondence that relates each
 -- element of Z, and the elements of B to those of A alone, is a well-defined map of the classes; where the same holds the other
 -- way round too, it is one-to-one and onto. What a chase through a diagram gives is such a relation.
-use Rattle.std.proofs.Common.{◌≡◌, refl, sym, ◌∙◌, ap, subst}
-use Rattle.sf_algebra.specs.Groups.{Group, IsSub, IsMap, Mod, IsWithin, PreimageOf}
-use Rattle.sf_algebra.proofs.Congruences.{Mod-refl, Mod-trans, Mod-equal, Mod-plus, Mod-minus, Mod-act, Mod-inside, Mod-sym}
+use Rattle.std.proofs.Common.{sym, subst}
+use Rattle.sf_algebra.specs.Groups.{Group, IsSub, IsMap, Mod}
+use Rattle.sf_algebra.proofs.Congruences.{Mod-refl, Mod-plus, Mod-minus, Mod-act, Mod-inside, Mod-sym}
 use Rattle.sf_algebra.proofs.Groups.{map-minus}
 use Rattle.sf_algebra.proofs.Quotients.{ActsOnQuotients, IsOneToOne, IsOnto}
 

@@ -1,8 +1,8 @@
 -- Homology of groups modulo relations: cycles and boundaries between two maps that pass each other, and what maps of complexes
 -- do on them.
-use Rattle.std.proofs.Common.{◌≡◌, refl, sym, ◌∙◌, ap, subst}
+use Rattle.std.proofs.Common.{refl}
 use Rattle.sf_algebra.specs.Groups.{Group, IsSub, IsMap, Mod, IsWithin, Whole, ImageOf, PreimageOf, SumOf}
-use Rattle.sf_algebra.proofs.Congruences.{Mod-refl, Mod-sym, Mod-trans, Mod-equal, Mod-plus, Mod-within, Mod-inside, Mod-add, Mod-map}
+use Rattle.sf_algebra.proofs.Congruences.{Mod-sym, Mod-trans, Mod-within, Mod-inside, Mod-add}
 use Rattle.sf_algebra.proofs.Quotients.{ActsOnQuotients}
 use Rattle.sf_algebra.proofs.Subgroups.{Whole-sub, ImageOf-sub, PreimageOf-sub, SumOf-sub, SumOf-within, ImageOf-within, within-SumOf_first, within-SumOf_second}
 

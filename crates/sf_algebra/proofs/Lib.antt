@@ -75,5 +75,7 @@ pub mod Filters
 pub mod Degrees
 pub mod DegreeParts
 pub mod HomogeneousVectors
+pub mod VectorProps
+pub mod VectorGroups
 pub mod Merge
 pub mod Slices
