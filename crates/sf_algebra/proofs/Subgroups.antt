@@ -26,6 +26,15 @@ module _ {R : Type 0} (G : Group R) where
     pub ZeroOf-within : IsWithin (ZeroOf G) N
     ZeroOf-within v e = subst N (sym e) sub.has_zero
 
+  -- a predicate that the same elements meet
+  pub same-sub : (M N : G.V → Type 0) → IsWithin M N → IsWithin N M → IsSub G M → IsSub G N
+  same-sub M N into back sub = record {
+    has_zero = into G.zero sub.has_zero;
+    has_plus = λ u v h k. into (G.plus u v) (sub.has_plus u v (back u h) (back v k));
+    has_minus = λ u h. into (G.minus u) (sub.has_minus u (back u h));
+    has_act = λ r u h. into (G.act r u) (sub.has_act r u (back u h));
+  }
+
   module _ (M N : G.V → Type 0) (m : IsSub G M) (n : IsSub G N) where
     pub BothOf-sub : IsSub G (BothOf M N)
     BothOf-sub = record {

@@ -1,6 +1,7 @@
 pub mod Accessible
 pub mod Dickson
 pub mod PlaceDivisors
+pub mod SpanGroups
 pub mod Images
 pub mod Gather
 pub mod TopCoefficients
