@@ -72,20 +72,21 @@ vectors_of_degree p positive degrees d = record {
   act_plus = λ r u v. absurd r;
 }
 
-module _ (m : Matrix) (positive : 0 < m.modulus) (is_matrix : IsMatrix m) (d : ℤ) where
-  -- the coefficients of degree d, and the vectors of degree d
+module _ (m : Matrix) (positive : 0 < m.modulus) (d : ℤ) where
+  -- the coefficients of degree d for the rows of a matrix
   abbrev pub coefficients_of_degree : Group ⊥
   coefficients_of_degree = vectors_of_degree m.modulus positive (row_degrees m) d
 
+  -- the vectors of degree d of its target
   abbrev pub values_of_degree : Group ⊥
   values_of_degree = vectors_of_degree m.modulus positive m.target d
 
-  -- the combination of the rows of a matrix
-  abbrev pub combined_matrix : coefficients_of_degree.V → values_of_degree.V
-  combined_matrix c = (row_combination m.modulus m.rows c.0, IsVector-row_combination m positive is_matrix (record { degree = d; terms = c.0 }) c.1)
+  -- the combination of its rows
+  abbrev pub combined_matrix : IsMatrix m → coefficients_of_degree.V → values_of_degree.V
+  combined_matrix is_matrix c = (row_combination m.modulus m.rows c.0, IsVector-row_combination m positive is_matrix (record { degree = d; terms = c.0 }) c.1)
 
-  pub combined_matrix-map : IsMap coefficients_of_degree values_of_degree combined_matrix
-  combined_matrix-map = record {
+  pub combined_matrix-map : (is_matrix : IsMatrix m) → IsMap coefficients_of_degree values_of_degree (combined_matrix is_matrix)
+  combined_matrix-map is_matrix = record {
     to_plus = λ c e. same_vector m.modulus m.target d _ _ (row_combination-add m.modulus positive m.rows c.0 e.0);
     to_act = λ r c. absurd r;
   }

@@ -1,6 +1,6 @@
 -- In one degree spans, syzygies and relations are subgroups of the vectors of that degree.
 use Rattle.std.proofs.Common.{◌≡◌, ◌<◌, ap, subst, List, ℕ, ℤ}
-use Rattle.sf_algebra.specs.Groups.{IsSub, Whole, ImageOf, PreimageOf, KernelOf}
+use Rattle.sf_algebra.specs.Groups.{IsSub, IsWithin, Whole, ImageOf, PreimageOf, KernelOf}
 use Rattle.sf_algebra.specs.Matrices.{Matrix, IsMatrix, row_degrees}
 use Rattle.sf_algebra.specs.Vectors.{Vector, IsVector}
 use Rattle.sf_algebra.proofs.Coordinates.{AreCoordinates, coordinates-differ}
@@ -15,47 +15,54 @@ use Rattle.sf_groebner.specs.Spans.{InSpan, IsSyzygy}
 abbrev pub of_degree : (Vector → Type 0) → (p : ℕ) (positive : 0 < p) (degrees : List ℤ) (d : ℤ) → (vectors_of_degree p positive degrees d).V → Type 0
 of_degree N p positive degrees d v = N (record { degree = d; terms = v.0 })
 
-module _ (m : Matrix) (positive : 0 < m.modulus) (is_matrix : IsMatrix m) (d : ℤ) where
-  -- the vectors of degree d in the span are the combinations with coefficients of degree d
-  pub InSpan-image : (v : (values_of_degree m positive is_matrix d).V) → InSpan m (record { degree = d; terms = v.0 }) → ImageOf (combined_matrix m positive is_matrix d) Whole v
-  InSpan-image v h =
-      let degree : (h.0).degree ≡ d = ap (λ (w : Vector). w.degree) h.2 in
-      let c : IsVector m.modulus (row_degrees m) (record { degree = d; terms = (h.0).terms }) = subst (λ e. IsVector m.modulus (row_degrees m) (record { degree = e; terms = (h.0).terms })) degree h.1 in
-      (((h.0).terms, c), tt, same_vector m.modulus m.target d _ v (ap (λ (w : Vector). w.terms) h.2))
+module _ (m : Matrix) (positive : 0 < m.modulus) (d : ℤ) where
+  -- coefficients of degree d that a module of coefficients has, and vectors of degree d that a module has
+  abbrev pub of_coefficients : (Vector → Type 0) → (coefficients_of_degree m positive d).V → Type 0
+  of_coefficients N = of_degree N m.modulus positive (row_degrees m) d
 
-  pub image-InSpan : (v : (values_of_degree m positive is_matrix d).V) → ImageOf (combined_matrix m positive is_matrix d) Whole v → InSpan m (record { degree = d; terms = v.0 })
-  image-InSpan v h = (record { degree = d; terms = (h.0).0 }, (h.0).1, λ i. record { degree = d; terms = (h.2 i).0 })
+  abbrev pub of_values : (Vector → Type 0) → (values_of_degree m positive d).V → Type 0
+  of_values N = of_degree N m.modulus positive m.target d
 
-  pub InSpan-sub : IsSub (values_of_degree m positive is_matrix d) (of_degree (InSpan m) m.modulus positive m.target d)
-  InSpan-sub =
-      same-sub (values_of_degree m positive is_matrix d) (ImageOf (combined_matrix m positive is_matrix d) Whole) (of_degree (InSpan m) m.modulus positive m.target d) image-InSpan InSpan-image
-      (ImageOf-sub (coefficients_of_degree m positive is_matrix d) (values_of_degree m positive is_matrix d) (combined_matrix m positive is_matrix d) (combined_matrix-map m positive is_matrix d) Whole
-      (Whole-sub (coefficients_of_degree m positive is_matrix d)))
+  module _ (is_matrix : IsMatrix m) where
+    -- the vectors of degree d in the span are the combinations with coefficients of degree d
+    pub InSpan-image : IsWithin (of_values (InSpan m)) (ImageOf (combined_matrix m positive d is_matrix) Whole)
+    InSpan-image v h =
+        let degree : (h.0).degree ≡ d = ap (λ (w : Vector). w.degree) h.2 in
+        let c = subst (λ e. IsVector m.modulus (row_degrees m) (record { degree = e; terms = (h.0).terms })) degree h.1 in
+        (((h.0).terms, c), tt, same_vector m.modulus m.target d _ v (ap (λ (w : Vector). w.terms) h.2))
 
-  -- the syzygies of degree d are the kernel
-  pub IsSyzygy-sub : IsSub (coefficients_of_degree m positive is_matrix d) (of_degree (IsSyzygy m) m.modulus positive (row_degrees m) d)
-  IsSyzygy-sub =
-      same-sub (coefficients_of_degree m positive is_matrix d) (KernelOf (values_of_degree m positive is_matrix d) (combined_matrix m positive is_matrix d)) (of_degree (IsSyzygy m) m.modulus positive (row_degrees m) d)
-      (λ c h. record { coefficients = c.1; zero = λ i. (h i).0 }) (λ c h. same_vector m.modulus m.target d _ _ h.zero)
-      (KernelOf-sub (coefficients_of_degree m positive is_matrix d) (values_of_degree m positive is_matrix d) (combined_matrix m positive is_matrix d) (combined_matrix-map m positive is_matrix d))
+    pub image-InSpan : IsWithin (ImageOf (combined_matrix m positive d is_matrix) Whole) (of_values (InSpan m))
+    image-InSpan v h = (record { degree = d; terms = (h.0).0 }, (h.0).1, λ i. record { degree = d; terms = (h.2 i).0 })
 
-  -- the relations modulo B are the coefficients whose combination is in B
-  pub IsRelation-sub : (B : Vector → Type 0) → IsSub (values_of_degree m positive is_matrix d) (of_degree B m.modulus positive m.target d)
-      → IsSub (coefficients_of_degree m positive is_matrix d) (of_degree (IsRelation m B) m.modulus positive (row_degrees m) d)
-  IsRelation-sub B sub =
-      same-sub (coefficients_of_degree m positive is_matrix d) (PreimageOf (combined_matrix m positive is_matrix d) (of_degree B m.modulus positive m.target d)) (of_degree (IsRelation m B) m.modulus positive (row_degrees m) d)
-      (λ c h. record { coefficients = c.1; inside = h }) (λ c h. h.inside)
-      (PreimageOf-sub (coefficients_of_degree m positive is_matrix d) (values_of_degree m positive is_matrix d) (combined_matrix m positive is_matrix d) (combined_matrix-map m positive is_matrix d) (of_degree B m.modulus positive m.target d) sub)
+    pub InSpan-sub : IsSub (values_of_degree m positive d) (of_values (InSpan m))
+    InSpan-sub =
+        same-sub (values_of_degree m positive d) (ImageOf (combined_matrix m positive d is_matrix) Whole) (of_values (InSpan m)) image-InSpan InSpan-image
+        (ImageOf-sub (coefficients_of_degree m positive d) (values_of_degree m positive d) (combined_matrix m positive d is_matrix) (combined_matrix-map m positive d is_matrix) Whole
+        (Whole-sub (coefficients_of_degree m positive d)))
 
-  -- two coordinates of one vector modulo B differ by a relation
-  pub coordinates-relation : (B : Vector → Type 0) → IsSub (values_of_degree m positive is_matrix d) (of_degree B m.modulus positive m.target d)
-      → (v : (values_of_degree m positive is_matrix d).V) (c e : (coefficients_of_degree m positive is_matrix d).V)
-      → AreCoordinates (values_of_degree m positive is_matrix d) (combined_matrix m positive is_matrix d) (of_degree B m.modulus positive m.target d) v c
-      → AreCoordinates (values_of_degree m positive is_matrix d) (combined_matrix m positive is_matrix d) (of_degree B m.modulus positive m.target d) v e
-      → IsRelation m B (difference m.modulus (record { degree = d; terms = c.0 }) (record { degree = d; terms = e.0 }))
-  coordinates-relation B sub v c e h k =
-      let C = coefficients_of_degree m positive is_matrix d in
-      record {
-        coefficients = (C.plus c (C.minus e)).1;
-        inside = coordinates-differ C (values_of_degree m positive is_matrix d) (combined_matrix m positive is_matrix d) (combined_matrix-map m positive is_matrix d) (of_degree B m.modulus positive m.target d) sub v c e h k;
-      }
+    -- the syzygies of degree d are the kernel
+    pub IsSyzygy-sub : IsSub (coefficients_of_degree m positive d) (of_coefficients (IsSyzygy m))
+    IsSyzygy-sub =
+        same-sub (coefficients_of_degree m positive d) (KernelOf (values_of_degree m positive d) (combined_matrix m positive d is_matrix)) (of_coefficients (IsSyzygy m))
+        (λ c h. record { coefficients = c.1; zero = λ i. (h i).0 }) (λ c h. same_vector m.modulus m.target d _ _ h.zero)
+        (KernelOf-sub (coefficients_of_degree m positive d) (values_of_degree m positive d) (combined_matrix m positive d is_matrix) (combined_matrix-map m positive d is_matrix))
+
+    module _ (B : Vector → Type 0) (sub : IsSub (values_of_degree m positive d) (of_values B)) where
+      -- the relations modulo B are the coefficients whose combination is in B
+      pub IsRelation-sub : IsSub (coefficients_of_degree m positive d) (of_coefficients (IsRelation m B))
+      IsRelation-sub =
+          same-sub (coefficients_of_degree m positive d) (PreimageOf (combined_matrix m positive d is_matrix) (of_values B)) (of_coefficients (IsRelation m B))
+          (λ c h. record { coefficients = c.1; inside = h }) (λ c h. h.inside)
+          (PreimageOf-sub (coefficients_of_degree m positive d) (values_of_degree m positive d) (combined_matrix m positive d is_matrix) (combined_matrix-map m positive d is_matrix) (of_values B) sub)
+
+      -- two coordinates of one vector modulo B differ by a relation
+      pub coordinates-relation : (v : (values_of_degree m positive d).V) (c e : (coefficients_of_degree m positive d).V)
+          → AreCoordinates (values_of_degree m positive d) (combined_matrix m positive d is_matrix) (of_values B) v c
+          → AreCoordinates (values_of_degree m positive d) (combined_matrix m positive d is_matrix) (of_values B) v e
+          → IsRelation m B (difference m.modulus (record { degree = d; terms = c.0 }) (record { degree = d; terms = e.0 }))
+      coordinates-relation v c e h k =
+          let C = coefficients_of_degree m positive d in
+          record {
+            coefficients = (C.plus c (C.minus e)).1;
+            inside = coordinates-differ C (values_of_degree m positive d) (combined_matrix m positive d is_matrix) (combined_matrix-map m positive d is_matrix) (of_values B) sub v c e h k;
+          }
