@@ -1,12 +1,18 @@
 -- In one degree spans, syzygies and relations are subgroups of the vectors of that degree.
 use Rattle.std.proofs.Common.{◌≡◌, ◌<◌, ap, subst, List, ℕ, ℤ}
+use Rattle.sf_algebra.specs.DegreeParts.{degree_part}
 use Rattle.sf_algebra.specs.Groups.{IsSub, IsWithin, Whole, ImageOf, PreimageOf, KernelOf}
 use Rattle.sf_algebra.specs.Matrices.{Matrix, IsMatrix, row_degrees}
-use Rattle.sf_algebra.specs.Vectors.{Vector, IsVector}
+use Rattle.sf_algebra.specs.MatrixOperations.{row_combination}
+use Rattle.sf_algebra.specs.Terms.{IsCanonical}
+use Rattle.sf_algebra.specs.Vectors.{Vector, place_cmp, IsVector}
 use Rattle.sf_algebra.proofs.Coordinates.{AreCoordinates, coordinates-differ}
+use Rattle.sf_algebra.proofs.DegreeParts.{IsHomogeneous-degree_part}
+use Rattle.sf_algebra.proofs.Filters.{IsCanonical-filter}
+use Rattle.sf_algebra.proofs.HomogeneousVectors.{row_combination-IsVector}
 use Rattle.sf_algebra.proofs.Subgroups.{Whole-sub, ImageOf-sub, PreimageOf-sub, KernelOf-sub, same-sub}
-use Rattle.sf_algebra.proofs.VectorGroups.{vectors_of_degree, coefficients_of_degree, values_of_degree, combined_matrix, combined_matrix-map}
-use Rattle.sf_algebra.proofs.VectorProps.{same_vector}
+use Rattle.sf_algebra.proofs.VectorGroups.{SpanOf, vectors_of_degree, coefficients_of_degree, values_of_degree, combined_matrix, combined_matrix-map}
+use Rattle.sf_algebra.proofs.VectorProps.{same_canonical, same_vector}
 use Rattle.sf_groebner.specs.Presentations.{IsRelation}
 use Rattle.sf_groebner.proofs.Modules.{difference}
 use Rattle.sf_groebner.specs.Spans.{InSpan, IsSyzygy}
@@ -66,3 +72,18 @@ module _ (m : Matrix) (positive : 0 < m.modulus) (d : ℤ) where
             coefficients = (C.plus c (C.minus e)).1;
             inside = coordinates-differ C (values_of_degree m positive d) (combined_matrix m positive d is_matrix) (combined_matrix-map m positive d is_matrix) (of_values B) sub v c e h k;
           }
+
+module _ (m : Matrix) (positive : 0 < m.modulus) where
+  -- a vector in the span is in it with coefficients of no degree in particular
+  pub InSpan-SpanOf : (v : Vector) (canonical : IsCanonical place_cmp m.modulus v.terms) → InSpan m v → SpanOf m.modulus positive m.rows (v.terms, canonical)
+  InSpan-SpanOf v canonical h = (((h.0).terms, (h.1).canonical), tt, same_canonical place_cmp m.modulus _ _ (ap (λ (w : Vector). w.terms) h.2))
+
+  -- with any coefficients it is in the span: those of its degree do
+  pub SpanOf-InSpan : IsMatrix m → (v : Vector) (vector : IsVector m.modulus m.target v) → SpanOf m.modulus positive m.rows (v.terms, vector.canonical) → InSpan m v
+  SpanOf-InSpan is_matrix v vector h =
+      let value : row_combination m.modulus m.rows (h.0).0 ≡ v.terms = λ i. (h.2 i).0 in
+      let c : Vector = record { degree = v.degree; terms = degree_part (row_degrees m) v.degree (h.0).0 } in (
+        c,
+        record { canonical = IsCanonical-filter _ place_cmp m.modulus (h.0).0 (h.0).1; homogeneous = IsHomogeneous-degree_part (row_degrees m) v.degree (h.0).0 },
+        λ i. record { degree = v.degree; terms = row_combination-IsVector m positive is_matrix v vector (h.0).0 value i },
+      )
