@@ -32,7 +32,7 @@ module _ {R : Type 0} (G H : Group R) (f : G.V → H.V) (map : IsMap G H f) (Z B
   pub acts-Mod : ActsOnQuotients f Z B Y A → (u v : G.V) → Mod G B u v → Mod H A (f u) (f v)
   acts-Mod acts u v h = Mod-map G H f map B A acts.bounds u v h
 
-  -- it is enough that generators of B, modulo nothing, go into A
+  -- where the relations are a sum of two parts, it is enough that both go into A
   pub acts-SumOf : (M N : G.V → Type 0) → IsSub H A → IsWithin Z (PreimageOf f Y) → IsWithin M (PreimageOf f A) → IsWithin N (PreimageOf f A) → ActsOnQuotients f Z (SumOf G M N) Y A
   acts-SumOf M N sub elements first second = record {
     elements = elements;
