@@ -1,3 +1,8 @@
+pub mod Groups
+pub mod GroupMaps
+pub mod Subgroups
+pub mod Congruences
+pub mod Quotients
 pub mod Lists
 pub mod Descending
 pub mod MonomialEquality

@@ -1,3 +1,4 @@
+pub mod Groups
 pub mod Residues
 pub mod Primes
 pub mod Fields
