@@ -2,6 +2,7 @@ pub mod Accessible
 pub mod Dickson
 pub mod PlaceDivisors
 pub mod Images
+pub mod Multiplied
 pub mod Gather
 pub mod TopCoefficients
 pub mod Standard
@@ -12,3 +13,4 @@ pub mod Modules
 pub mod Apart
 pub mod Sorted
 pub mod UniqueBases
+pub mod Settled
