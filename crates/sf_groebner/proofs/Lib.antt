@@ -14,3 +14,4 @@ pub mod Apart
 pub mod Sorted
 pub mod UniqueBases
 pub mod Settled
+pub mod Pairs
