@@ -15,3 +15,5 @@ pub mod Sorted
 pub mod UniqueBases
 pub mod Settled
 pub mod Pairs
+pub mod MonicRows
+pub mod Kernels
