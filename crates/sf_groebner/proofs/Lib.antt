@@ -17,3 +17,4 @@ pub mod Settled
 pub mod Pairs
 pub mod MonicRows
 pub mod Kernels
+pub mod Buchberger
