@@ -18,3 +18,4 @@ pub mod Pairs
 pub mod MonicRows
 pub mod Kernels
 pub mod Buchberger
+pub mod Schreyer
