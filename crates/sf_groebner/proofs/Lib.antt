@@ -19,3 +19,4 @@ pub mod MonicRows
 pub mod Kernels
 pub mod Buchberger
 pub mod Schreyer
+pub mod BoundedCriterion

@@ -1,16 +1,16 @@
 -- S-vectors of pairs of rows, and what it means that a pair reduces to zero. A row's lead is its first term; rows are those whose
 -- lead has the coefficient 1. (Cox, Little, O'Shea, "Using Algebraic Geometry", chapter 5, sections 2 and 3.)
-use Rattle.std.specs.Prelude.{◌≡◌, ℕ, ◌<◌, List, [], ◌∷◌, length}
+use Rattle.std.specs.Prelude.{◌≡◌, ℕ, ◌<◌, List, [], ◌∷◌, length, ℤ, pos, ◌+ℤ◌}
 use Rattle.std.specs.declared.cmp.Ordering.TheVariants.{Less}
 use Rattle.std.specs.List.{AllByRecursion}
 use Rattle.sf_algebra.specs.Divisibility.{quotient, lcm}
 use Rattle.sf_algebra.specs.MatrixOperations.{row_at, row_combination}
-use Rattle.sf_algebra.specs.Monomials.{one}
+use Rattle.sf_algebra.specs.Monomials.{one, exponent_sum}
 use Rattle.sf_algebra.specs.Multiples.{place_product}
 use Rattle.sf_algebra.specs.Residues.{negative_mod}
 use Rattle.sf_algebra.specs.Sums.{normal, add}
 use Rattle.sf_algebra.specs.Terms.{Term, IsCanonical}
-use Rattle.sf_algebra.specs.Vectors.{Place, Vector, place_cmp}
+use Rattle.sf_algebra.specs.Vectors.{Place, Vector, place_cmp, generator_degree}
 use Rattle.sf_groebner.specs.ReducedBases.{IsMonic}
 
 -- where the first term of a list stands; at the first position with the monomial 1 where there is none
@@ -41,6 +41,10 @@ pair_terms p lead i j = record { at = pair_place lead i j; coefficient = 1 } ∷
 -- the S-vector of rows i and j
 abbrev pub s_vector : ℕ → List Vector → ℕ → ℕ → List (Term Place)
 s_vector p rows i j = row_combination p rows (pair_terms p (lead_at rows) i j)
+
+-- the degree of a place: that of its generator and the sum of the exponents
+abbrev pub place_degree : List ℤ → Place → ℤ
+place_degree degrees k = generator_degree degrees k.position +ℤ pos (exponent_sum k.monomial)
 
 -- a term stands for one of the rows
 abbrev pub IsForRows : List Vector → Term Place → Type 0
