@@ -20,9 +20,10 @@ use Rattle.sf_algebra.proofs.Normal.{IsCanonical-normal}
 use Rattle.sf_algebra.proofs.Residues.{product_mod-comm, product_mod-one, product_mod-sum, product_mod-zero, sum_mod-comm, sum_mod-first, sum_mod-reduced, sum_mod-zero_first}
 use Rattle.sf_algebra.proofs.Totals.{IsAdditive, total-append, total-cons, total-nil, total-normal, total-reduced}
 
-one_less_one : (p : ℕ) → 0 < p → sum_mod p 1 (negative_mod p 1) ≡ 0
+-- 1 and -1
+pub sum_mod-one_negative : (p : ℕ) → 0 < p → sum_mod p 1 (negative_mod p 1) ≡ 0
 unfolding sum_mod negative_mod
-one_less_one p positive = let whole : 1 + (p - 1) ≡ p = omega arith in rw (add-mod-mod, whole) (mod_self p)
+sum_mod-one_negative p positive = let whole : 1 + (p - 1) ≡ p = omega arith in rw (add-mod-mod, whole) (mod_self p)
 
 -- a number and its product with -1
 sum_mod-negative_one : (p a : ℕ) → 0 < p → sum_mod p a (product_mod p (negative_mod p 1) a) ≡ 0
@@ -30,7 +31,7 @@ sum_mod-negative_one p a positive =
     sym (sum_mod-first p a _)
     ∙ (λ i. sum_mod p (sym (product_mod-one p a) i) (product_mod-comm p (negative_mod p 1) a i))
     ∙ sym (product_mod-sum p a 1 (negative_mod p 1))
-    ∙ ap (product_mod p a) (one_less_one p positive)
+    ∙ ap (product_mod p a) (sum_mod-one_negative p positive)
     ∙ product_mod-zero p a
 
 pub record SameTotals {K : Type 0} (p : ℕ) (us vs : List (Term K)) : Type 0 where

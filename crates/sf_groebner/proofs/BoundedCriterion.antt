@@ -21,6 +21,7 @@ use Rattle.sf_groebner.specs.Criterion.{HasImageBelow, HaveLeadsAtOnePosition, I
 use Rattle.sf_groebner.specs.ReducedBases.{HasDividedLead, IsMonic}
 use Rattle.sf_groebner.specs.Spans.{IsCoefficients}
 use Rattle.sf_groebner.proofs.Buchberger.{buchberger_at}
+use Rattle.sf_groebner.proofs.Items.{AllByRecursion-both}
 use Rattle.sf_groebner.proofs.Images.{IsSettled, IsUnder}
 use Rattle.sf_groebner.proofs.Kernels.{IsZero, settled-reduces}
 use Rattle.sf_groebner.proofs.MonicRows.{IsMonicRow-row_at}
@@ -29,11 +30,6 @@ use Rattle.sf_groebner.proofs.Pairs.{cofactor, image-pair_place, lcm_place-comm,
 -- a place for a row whose degree is d
 abbrev pub HasPlaceOfDegree : List ℤ → ℤ → Place → Type 0
 HasPlaceOfDegree degrees d k = (k.position < length degrees) × (d ≡ place_degree degrees k)
-
--- two facts of each item
-AllByRecursion-both : {X : Type 0} (P Q R : X → Type 0) → ((x : X) → P x → Q x → R x) → (xs : List X) → AllByRecursion P xs → AllByRecursion Q xs → AllByRecursion R xs
-AllByRecursion-both P Q R f [] h k = tt
-AllByRecursion-both P Q R f (x ∷ xs) h k = (f x h.0 k.0, AllByRecursion-both P Q R f xs h.1 k.1)
 
 -- a product with a monomial has the sum of the degrees
 pub place_degree-product : (degrees : List ℤ) (a : Monomial) (k : Place) → place_degree degrees (place_product a k) ≡ place_degree degrees k +ℤ pos (exponent_sum a)

@@ -20,3 +20,5 @@ pub mod Kernels
 pub mod Buchberger
 pub mod Schreyer
 pub mod BoundedCriterion
+pub mod SVectors
+pub mod GrowingRows
