@@ -1,22 +1,38 @@
 -- Lists of terms that mean one canonical list: each number that is additive in the coefficient has one total on both.
-use Rattle.std.proofs.Common.{◌≡◌, ℕ, ◌<◌, List, ◌∷◌, ◌++◌, map, refl, sym, ◌∙◌, ap}
+use Rattle.std.proofs.Common.{◌≡◌, ℕ, ◌+◌, ◌-◌, ◌%◌, ◌<◌, List, [], ◌∷◌, ◌++◌, map, refl, sym, ◌∙◌, ap, arith}
+use Rattle.std.proofs.Math.Nat.{add-mod-mod, mod_self}
 use Rattle.std.specs.declared.cmp.Ordering.{Ordering}
 use Rattle.sf_algebra.specs.Monomials.{Monomial}
 use Rattle.sf_algebra.specs.Multiples.{term_product, combination}
 use Rattle.sf_algebra.specs.Orders.{IsLinearOrder}
-use Rattle.sf_algebra.specs.Residues.{sum_mod}
+use Rattle.sf_algebra.specs.Residues.{sum_mod, product_mod, negative_mod}
 use Rattle.sf_algebra.specs.Sums.{normal, total}
 use Rattle.sf_algebra.specs.Terms.{Term}
 use Rattle.sf_algebra.proofs.Coefficients.{same_from_total}
 use Rattle.sf_algebra.proofs.Combinations.{IsCanonical-combination, share-additive, total-combination}
 use Rattle.sf_algebra.proofs.CombinationLaws.{combination-same}
-use Rattle.sf_algebra.proofs.DoubleTotals.{total-map, total-same}
+use Rattle.sf_algebra.proofs.DoubleTotals.{total-map, total-same, total-sum, total-zero}
 use Rattle.sf_algebra.proofs.Keys.{Keys}
 use Rattle.sf_algebra.proofs.MultipleLaws.{additive-term_product_one, one_term}
 use Rattle.sf_algebra.proofs.Multiples.{term_product-additive}
+use Rattle.sf_algebra.proofs.Negatives.{negative_one_term}
 use Rattle.sf_algebra.proofs.Normal.{IsCanonical-normal}
-use Rattle.sf_algebra.proofs.Residues.{sum_mod-comm, sum_mod-first, sum_mod-zero_first}
-use Rattle.sf_algebra.proofs.Totals.{IsAdditive, total-append, total-cons, total-normal, total-reduced}
+use Rattle.sf_algebra.proofs.Residues.{product_mod-comm, product_mod-one, product_mod-sum, product_mod-zero, sum_mod-comm, sum_mod-first, sum_mod-reduced, sum_mod-zero_first}
+use Rattle.sf_algebra.proofs.Totals.{IsAdditive, total-append, total-cons, total-nil, total-normal, total-reduced}
+
+-- 1 and -1
+pub sum_mod-one_negative : (p : ℕ) → 0 < p → sum_mod p 1 (negative_mod p 1) ≡ 0
+unfolding sum_mod negative_mod
+sum_mod-one_negative p positive = let whole : 1 + (p - 1) ≡ p = omega arith in rw (add-mod-mod, whole) (mod_self p)
+
+-- a number and its product with -1
+sum_mod-negative_one : (p a : ℕ) → 0 < p → sum_mod p a (product_mod p (negative_mod p 1) a) ≡ 0
+sum_mod-negative_one p a positive =
+    sym (sum_mod-first p a _)
+    ∙ (λ i. sum_mod p (sym (product_mod-one p a) i) (product_mod-comm p (negative_mod p 1) a i))
+    ∙ sym (product_mod-sum p a 1 (negative_mod p 1))
+    ∙ ap (product_mod p a) (sum_mod-one_negative p positive)
+    ∙ product_mod-zero p a
 
 pub record SameTotals {K : Type 0} (p : ℕ) (us vs : List (Term K)) : Type 0 where
   pub totals : (g : Term K → ℕ) → IsAdditive p g → total p g us ≡ total p g vs
@@ -90,3 +106,21 @@ pub SameTotals-products_one : {K : Type 0} (keys : Keys K) (p : ℕ) (us : List 
 SameTotals-products_one keys p us = record {
   totals = λ g additive. total-map p g (term_product keys.act p one_term) us ∙ total-same p _ _ us (additive-term_product_one keys p g additive);
 }
+
+-- the negatives of the terms of a list take it away
+pub SameTotals-negative : {K : Type 0} (keys : Keys K) (p : ℕ) → 0 < p → (us : List (Term K)) → SameTotals p (us ++ map (term_product keys.act p (negative_one_term p)) us) []
+SameTotals-negative {K} keys p positive us = record {
+  totals = λ g additive.
+      total-append p g us (map (term_product keys.act p (negative_one_term p)) us)
+      ∙ ap (sum_mod p (total p g us)) (total-map p g (term_product keys.act p (negative_one_term p)) us)
+      ∙ sym (total-sum p (λ (u : Term K). sum_mod p (g u) (g (term_product keys.act p (negative_one_term p) u))) g _ us (λ u. sum_mod-reduced p _ _))
+      ∙ total-zero p _ us (λ u. sum_mod-reduced p _ _ ∙ cancels g additive u)
+      ∙ sym (total-nil p g);
+}
+  where
+    cancels : (g : Term K → ℕ) → IsAdditive p g → (u : Term K) → sum_mod p (g u) (g (term_product keys.act p (negative_one_term p) u)) ≡ 0
+    cancels g additive u =
+        ap (λ k. sum_mod p (g u) (g (record { at = k; coefficient = product_mod p (negative_mod p 1) u.coefficient }))) (keys.act_one u.at)
+        ∙ sym (additive.at_sum u.at u.coefficient (product_mod p (negative_mod p 1) u.coefficient))
+        ∙ ap (λ n. g (record { at = u.at; coefficient = n }) % p) (sum_mod-negative_one p u.coefficient positive)
+        ∙ additive.at_zero u.at

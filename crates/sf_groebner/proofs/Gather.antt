@@ -2,7 +2,6 @@
 use Rattle.std.proofs.Common.{◌≡◌, ℕ, ◌%◌, List, [], ◌∷◌, ◌++◌, if◌then◌else◌, map, subst, sym, ◌∙◌, ap}
 use Rattle.std.specs.Ordering.{is_eq}
 use Rattle.std.proofs.lemmas.List.{map-append}
-use Rattle.sf_algebra.specs.Monomials.{Monomial, one}
 use Rattle.sf_algebra.specs.Multiples.{place_product, term_product}
 use Rattle.sf_algebra.specs.Residues.{sum_mod}
 use Rattle.sf_algebra.specs.Sums.{total}
@@ -11,31 +10,12 @@ use Rattle.sf_algebra.specs.Vectors.{Place, place_cmp}
 use Rattle.sf_algebra.proofs.Lists.{AllByRecursion-append}
 use Rattle.sf_algebra.proofs.Normal.{EachPlace}
 use Rattle.sf_algebra.proofs.Orders.{ordering_cases, place_cmp-Equal}
-use Rattle.sf_algebra.proofs.Places.{place_product-one}
-use Rattle.sf_algebra.proofs.Residues.{product_mod-one, sum_mod-assoc, sum_mod-comm, sum_mod-first, sum_mod-zero, sum_mod-zero_first}
+use Rattle.sf_algebra.proofs.Residues.{sum_mod-assoc, sum_mod-comm, sum_mod-first, sum_mod-zero, sum_mod-zero_first}
 use Rattle.sf_algebra.proofs.SameTotals.{SameTotals, SameTotals-append, SameTotals-equal, SameTotals-products, SameTotals-refl, SameTotals-sym, SameTotals-trans}
-use Rattle.sf_algebra.proofs.Totals.{additive-reduced, total-append, total-cons, total-nil, total-reduced}
-use Rattle.sf_groebner.proofs.Images.{IsAllSettled, IsAtMost, IsModule, IsSettled, IsUnder, at_place, image, top_part}
-
--- the term that multiplies by x
-abbrev pub constant_term : ℕ → Term Monomial
-constant_term x = record { at = one; coefficient = x }
-
--- the coefficient 1 at a place, x times
-pub SameTotals-constant : (p : ℕ) (x : ℕ) (k : Place) → SameTotals p (map (term_product place_product p (constant_term x)) (at_place k)) (record { at = k; coefficient = x } ∷ [])
-SameTotals-constant p x k = record {
-  totals = λ g additive.
-      total-cons p g _ []
-      ∙ sym (sum_mod-first p _ _)
-      ∙ ap (λ n. sum_mod p n (total p g [])) ((λ i. g (record { at = place_product-one k i; coefficient = product_mod-one p x i }) % p) ∙ additive-reduced p g additive k x)
-      ∙ sum_mod-first p _ _
-      ∙ sym (total-cons p g _ []);
-}
-
--- a fact of the places stays one of their products with the monomial 1
-pub EachPlace-constant : (P : Place → Type 0) (p x : ℕ) (us : List (Term Place)) → EachPlace P us → EachPlace P (map (term_product place_product p (constant_term x)) us)
-EachPlace-constant P p x [] h = tt
-EachPlace-constant P p x (u ∷ us) h = (subst P (sym (place_product-one u.at)) h.0, EachPlace-constant P p x us h.1)
+use Rattle.sf_algebra.proofs.Totals.{total-append, total-cons, total-nil, total-reduced}
+use Rattle.sf_groebner.specs.Criterion.{image}
+use Rattle.sf_groebner.proofs.Multiplied.{EachPlace-constant, SameTotals-constant, constant_term}
+use Rattle.sf_groebner.proofs.Images.{IsAllSettled, IsAtMost, IsModule, IsSettled, IsUnder, at_place, top_part}
 
 -- a combination as what is less than b, a coefficient y at r, and a member of S
 pub record IsGathered (p : ℕ) (In : Place → Type 0) (lead : ℕ → Place) (S : List (Term Place) → Type 0) (r b : Place) (c : List (Term Place)) (y : ℕ) : Type 0 where

@@ -11,10 +11,7 @@ use Rattle.sf_algebra.specs.Terms.{Term}
 use Rattle.sf_algebra.specs.Vectors.{Place, Vector, place_cmp}
 use Rattle.sf_algebra.proofs.Normal.{EachPlace, IsAboveEach}
 use Rattle.sf_algebra.proofs.SameTotals.{SameTotals}
-
--- the image of a place of coefficients: its monomial times the lead of the row at its position
-abbrev pub image : (ℕ → Place) → Place → Place
-image lead k = place_product k.monomial (lead k.position)
+use Rattle.sf_groebner.specs.Criterion.{image}
 
 -- at each place in In the row begins with the coefficient 1 at its lead, which is in the first n columns
 pub record HasLeads (n : ℕ) (In : Place → Type 0) (rows : List Vector) (lead : ℕ → Place) : Type 0 where

@@ -3,6 +3,7 @@ pub mod Dickson
 pub mod PlaceDivisors
 pub mod SpanGroups
 pub mod Images
+pub mod Multiplied
 pub mod Gather
 pub mod TopCoefficients
 pub mod Standard
@@ -13,3 +14,12 @@ pub mod Modules
 pub mod Apart
 pub mod Sorted
 pub mod UniqueBases
+pub mod Settled
+pub mod Pairs
+pub mod MonicRows
+pub mod Kernels
+pub mod Buchberger
+pub mod Schreyer
+pub mod BoundedCriterion
+pub mod SVectors
+pub mod GrowingRows

@@ -4,11 +4,10 @@
 use Rattle.std.proofs.Common.{◌≡◌, ◌≢◌, ◌⊎◌, inl, inr, ⊎_elim, ℕ, zero, suc, ◌<◌, List, [], ◌∷◌, ◌++◌, refl, sym, ◌∙◌, ap, subst}
 use Rattle.std.proofs.lemmas.Cmp.{tied_itself}
 use Rattle.std.specs.declared.cmp.Ordering.{Ordering}
-use Rattle.std.specs.declared.cmp.Ordering.TheVariants.{Less, Equal, Greater}
+use Rattle.std.specs.declared.cmp.Ordering.TheVariants.{Less, Greater}
 use Rattle.std.specs.Ordering.{ordering_reverse}
 use mathlib.Core.WellFounded.{Acc}
 use Rattle.sf_algebra.specs.MatrixOperations.{row_at, row_combination}
-use Rattle.sf_algebra.specs.Multiples.{place_product}
 use Rattle.sf_algebra.specs.Sums.{add, total, coefficient_at}
 use Rattle.sf_algebra.specs.Terms.{Term}
 use Rattle.sf_algebra.specs.Vectors.{Place, Vector, place_cmp}
@@ -19,9 +18,10 @@ use Rattle.sf_algebra.proofs.Orders.{ordering_cases, place_cmp-Equal, place_cmp_
 use Rattle.sf_algebra.proofs.Rows.{IsCanonical-row_combination, row_combination-append}
 use Rattle.sf_algebra.proofs.SameTotals.{SameTotals, SameTotals-append, SameTotals-refl, SameTotals-sym, SameTotals-trans, SameTotals-zero, combination-SameTotals}
 use Rattle.sf_algebra.proofs.Sums.{add-nil}
+use Rattle.sf_groebner.specs.Criterion.{image}
 use Rattle.sf_groebner.proofs.Accessible.{IsBelow, place_acc}
 use Rattle.sf_groebner.proofs.Gather.{IsGathered, gather}
-use Rattle.sf_groebner.proofs.Images.{HasLeads, IsAllSettled, IsAtMost, IsModule, IsUnder, image, top_part}
+use Rattle.sf_groebner.proofs.Images.{HasLeads, IsAllSettled, IsAtMost, IsModule, top_part}
 use Rattle.sf_groebner.proofs.TopCoefficients.{Begins, begins_at, coefficient_at-top, row_combination-at_most}
 
 -- induction over the places with positions below n
@@ -58,10 +58,15 @@ greatest P In lead (t ∷ ts) h =
     (λ equal. inr (found.0, found.1, found.2, ((h.0.0, λ greater. cc), found.3)))
     (λ greater.
     let less : place_cmp (image lead found.0) (image lead t.at) ≡ Less = place_cmp_total.antisymm (image lead found.0) (image lead t.at) ∙ ap ordering_reverse greater in
-    inr
-    (t.at, h.0.0, h.0.1,
-    ((h.0.0, not_greater_itself (image lead t.at)),
-    AllByRecursion-weaken _ _ (λ u k. (k.0, not_greater _ (not_greater_less (image lead u.at) (image lead found.0) (image lead t.at) k.1 less))) ts found.3))))
+    inr (
+      t.at,
+      h.0.0,
+      h.0.1,
+      (
+        (h.0.0, not_greater_itself (image lead t.at)),
+        AllByRecursion-weaken _ _ (λ u k. (k.0, not_greater _ (not_greater_less (image lead u.at) (image lead found.0) (image lead t.at) k.1 less))) ts found.3,
+      ),
+    )))
     (greatest P In lead ts h.1)
 
 module _ (p n : ℕ) (positive : 0 < p) (In : Place → Type 0) (rows : List Vector) (lead : ℕ → Place) (leads : HasLeads n In rows lead) (S : List (Term Place) → Type 0) (is_module : IsModule p S) where
@@ -105,10 +110,12 @@ module _ (p n : ℕ) (positive : 0 < p) (In : Place → Type 0) (rows : List Vec
             before (image lead found.0) (found.2, leads.column found.0 found.1) found.0 found.1 refl gathered.lower found.3)
             (greatest (λ k. place_cmp (image lead k) b ≡ Less) In lead gathered.lower gathered.under))
         by_coefficient (suc x) top gathered =
-            inr
-            (r, inside,
-            subst (λ l. Begins l (row_combination p rows c)) (sym e)
-            (begins_at p b (row_combination p rows c) x (IsCanonical-row_combination p positive rows c) (row_combination-at_most p n In rows lead leads b c most) top))
+            inr (
+              r,
+              inside,
+              subst (λ l. Begins l (row_combination p rows c)) (sym e)
+                  (begins_at p b (row_combination p rows c) x (IsCanonical-row_combination p positive rows c) (row_combination-at_most p n In rows lead leads b c most) top),
+            )
 
     pub standard : (c : List (Term Place)) → EachPlace In c → IsStandard c
     standard c h =

@@ -20,7 +20,8 @@ use Rattle.sf_algebra.proofs.Orders.{ordering_cases, place_cmp-Equal, place_cmp_
 use Rattle.sf_algebra.proofs.Places.{place_cmp-place_product}
 use Rattle.sf_algebra.proofs.Residues.{product_mod-one, sum_mod-first, sum_mod-zero}
 use Rattle.sf_algebra.proofs.Totals.{total-cons, total-nil, total-reduced}
-use Rattle.sf_groebner.proofs.Images.{HasLeads, IsAtMost, image, top_part}
+use Rattle.sf_groebner.specs.Criterion.{image}
+use Rattle.sf_groebner.proofs.Images.{HasLeads, IsAtMost, top_part}
 
 -- a list begins at b, with some coefficient
 pub record Begins (b : Place) (v : List (Term Place)) : Type 0 where

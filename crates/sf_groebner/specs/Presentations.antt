@@ -2,8 +2,7 @@
 -- maps act on row vectors from the right.)
 use Rattle.std.specs.Prelude.{◌≡◌, ℕ, List, [], ℤ}
 use Rattle.sf_algebra.specs.Matrices.{Matrix, row_degrees, IsMatrix}
-use Rattle.sf_algebra.specs.MatrixOperations.{stacked}
-use Rattle.sf_algebra.specs.Vectors.{Vector, IsVector}
+use Rattle.sf_algebra.specs.Vectors.{Vector}
 use Rattle.sf_groebner.specs.MinimalGenerators.{AreMinimal}
 use Rattle.sf_groebner.specs.ReducedBases.{IsReducedBasis, IsReducedBy}
 use Rattle.sf_groebner.specs.Spans.{InSpan, IsCoefficients, combined}

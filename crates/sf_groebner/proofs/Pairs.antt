@@ -1,0 +1,89 @@
+-- Pairs of rows: where they are settled at the least common multiples of their leads, all pairs of places with one image are.
+use Rattle.std.proofs.Common.{◌≡◌, ◌⊎◌, inl, inr, ℕ, ◌+◌, ◌-◌, ◌<◌, ◌≤◌, List, max, refl, sym, ◌∙◌, ap, subst, arith}
+use Rattle.std.proofs.lemmas.Bool.{cases_lt}
+use Rattle.sf_algebra.specs.Divisibility.{Divides, quotient, lcm}
+use Rattle.sf_algebra.specs.Monomials.{Monomial, product}
+use Rattle.sf_algebra.specs.Multiples.{place_product}
+use Rattle.sf_algebra.specs.Terms.{Term}
+use Rattle.sf_algebra.specs.Vectors.{Place}
+use Rattle.sf_algebra.proofs.Divisors.{product-cancel, same_exponents, same_monomial}
+use Rattle.sf_algebra.proofs.Products.{product-comm}
+use Rattle.sf_groebner.specs.Criterion.{image, lcm_place, pair_place}
+use Rattle.sf_groebner.proofs.Images.{IsAllSettled, IsModule, IsSettled}
+use Rattle.sf_groebner.proofs.Settled.{IsSettled-equal, IsSettled-product, IsSettled-sym}
+
+-- the monomial by which the image of j and k is a multiple of the least common multiple of the leads of their rows
+abbrev pub cofactor : (ℕ → Place) → Place → Place → Monomial
+cofactor lead j k = quotient (image lead j).monomial (lcm (lead j.position).monomial (lead k.position).monomial)
+
+-- the factors of a common multiple, by those of the least one
+product-cofactor_first : (a b x y : Monomial) → product x a ≡ product y b → product (quotient (product x a) (lcm a b)) (quotient (lcm a b) a) ≡ x
+product-cofactor_first a b x y e =
+    let p = same_exponents (product x a) (product y b) e in
+    same_monomial _ x (omega (arith, p.0)) (omega (arith, p.1)) (omega (arith, p.2)) (omega (arith, p.3)) (omega (arith, p.4)) (omega (arith, p.5))
+
+product-cofactor_second : (a b x y : Monomial) → product x a ≡ product y b → product (quotient (product x a) (lcm a b)) (quotient (lcm b a) b) ≡ y
+product-cofactor_second a b x y e =
+    let p = same_exponents (product x a) (product y b) e in
+    same_monomial _ y (omega (arith, p.0)) (omega (arith, p.1)) (omega (arith, p.2)) (omega (arith, p.3)) (omega (arith, p.4)) (omega (arith, p.5))
+
+product-quotient_lcm : (a b : Monomial) → product (quotient (lcm a b) a) a ≡ lcm a b
+product-quotient_lcm a b = same_monomial _ (lcm a b) (omega arith) (omega arith) (omega arith) (omega arith) (omega arith) (omega arith)
+
+pub lcm-comm : (a b : Monomial) → lcm a b ≡ lcm b a
+lcm-comm a b = same_monomial _ (lcm b a) (omega arith) (omega arith) (omega arith) (omega arith) (omega arith) (omega arith)
+
+module _ (lead : ℕ → Place) where
+  pub image-pair_place : (i j : ℕ) → image lead (pair_place lead i j) ≡ lcm_place lead i j
+  image-pair_place i j = λ k. record { position = (lead i).position; monomial = product-quotient_lcm (lead i).monomial (lead j).monomial k }
+
+  pub lcm_place-comm : (i j : ℕ) → (lead i).position ≡ (lead j).position → lcm_place lead i j ≡ lcm_place lead j i
+  lcm_place-comm i j e = λ k. record { position = e k; monomial = lcm-comm (lead i).monomial (lead j).monomial k }
+
+  module _ (j k : Place) (e : image lead j ≡ image lead k) where
+    -- the leads of rows with one image stand at one position
+    pub same_lead_position : (lead j.position).position ≡ (lead k.position).position
+    same_lead_position = ap (λ l. l.position) e
+
+    pub place_product-pair_place_first : place_product (cofactor lead j k) (pair_place lead j.position k.position) ≡ j
+    place_product-pair_place_first =
+        λ i. record { position = j.position; monomial = product-cofactor_first (lead j.position).monomial (lead k.position).monomial j.monomial k.monomial (ap (λ l. l.monomial) e) i }
+
+    pub place_product-pair_place_second : place_product (cofactor lead j k) (pair_place lead k.position j.position) ≡ k
+    place_product-pair_place_second =
+        λ i. record { position = k.position; monomial = product-cofactor_second (lead j.position).monomial (lead k.position).monomial j.monomial k.monomial (ap (λ l. l.monomial) e) i }
+
+    -- one row has one place for an image
+    pub image-one_row : j.position ≡ k.position → j ≡ k
+    image-one_row same =
+        let monomials : j.monomial ≡ k.monomial =
+        product-cancel (lead k.position).monomial j.monomial k.monomial
+        (product-comm (lead k.position).monomial j.monomial
+        ∙ ap (λ n. product j.monomial (lead n).monomial) (sym same)
+        ∙ ap (λ l. l.monomial) e
+        ∙ product-comm k.monomial (lead k.position).monomial) in
+        λ i. record { position = same i; monomial = monomials i }
+
+module _ (p : ℕ) (S : List (Term Place) → Type 0) (is_module : IsModule p S) (In : Place → Type 0) (lead : ℕ → Place) where
+  -- a pair of places, by the pair of their rows
+  pub settled_pair : (j k : Place) → image lead j ≡ image lead k
+      → IsSettled p (λ u. In (place_product (cofactor lead j k) u)) lead S (pair_place lead j.position k.position) (pair_place lead k.position j.position)
+      → IsSettled p In lead S j k
+  settled_pair j k e h =
+      subst (λ l. IsSettled p In lead S l k) (place_product-pair_place_first lead j k e)
+      (subst (IsSettled p In lead S (place_product (cofactor lead j k) (pair_place lead j.position k.position))) (place_product-pair_place_second lead j k e)
+      (IsSettled-product p S is_module In lead (cofactor lead j k) (pair_place lead j.position k.position) (pair_place lead k.position j.position) h))
+
+  -- all pairs of places, by the pairs of an earlier and a later row
+  pub settled_pairs : 0 < p
+      → ((j k : Place) → In j → In k → image lead j ≡ image lead k → j.position < k.position
+        → IsSettled p (λ u. In (place_product (cofactor lead j k) u)) lead S (pair_place lead j.position k.position) (pair_place lead k.position j.position))
+      → IsAllSettled p In lead S
+  settled_pairs positive pairs j k j_in k_in e =
+      elim (cases_lt j.position k.position) [
+        | inl earlier ↦ settled_pair j k e (pairs j k j_in k_in e earlier)
+        | inr not_earlier ↦ elim (cases_lt k.position j.position) [
+          | inl later ↦ IsSettled-sym p S is_module In lead positive k j (sym e) (settled_pair k j (sym e) (pairs k j k_in j_in (sym e) later))
+          | inr not_later ↦ IsSettled-equal p S is_module In lead j k (image-one_row lead j k e (omega arith))
+        ]
+      ]

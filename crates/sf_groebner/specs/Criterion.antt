@@ -1,0 +1,77 @@
+-- S-vectors of pairs of rows, and what it means that a pair reduces to zero. A row's lead is its first term; rows are those whose
+-- lead has the coefficient 1. (Cox, Little, O'Shea, "Using Algebraic Geometry", chapter 5, sections 2 and 3.)
+use Rattle.std.specs.Prelude.{◌≡◌, ℕ, ◌<◌, List, [], ◌∷◌, length, ℤ, pos, ◌+ℤ◌}
+use Rattle.std.specs.declared.cmp.Ordering.TheVariants.{Less}
+use Rattle.std.specs.List.{AllByRecursion}
+use Rattle.sf_algebra.specs.Divisibility.{quotient, lcm}
+use Rattle.sf_algebra.specs.MatrixOperations.{row_at, row_combination}
+use Rattle.sf_algebra.specs.Monomials.{one, exponent_sum}
+use Rattle.sf_algebra.specs.Multiples.{place_product}
+use Rattle.sf_algebra.specs.Residues.{negative_mod}
+use Rattle.sf_algebra.specs.Sums.{normal, add}
+use Rattle.sf_algebra.specs.Terms.{Term, IsCanonical}
+use Rattle.sf_algebra.specs.Vectors.{Place, Vector, place_cmp, generator_degree}
+use Rattle.sf_groebner.specs.ReducedBases.{IsMonic}
+
+-- where the first term of a list stands; at the first position with the monomial 1 where there is none
+abbrev pub lead_place : List (Term Place) → Place
+lead_place [] = record { position = 0; monomial = one }
+lead_place (t ∷ ts) = t.at
+
+-- where the lead of the row at a position stands
+abbrev pub lead_at : List Vector → ℕ → Place
+lead_at rows i = lead_place (row_at rows i)
+
+-- the image of a coefficient's place, for the leads of the rows: its monomial times the lead of the row at its position
+abbrev pub image : (ℕ → Place) → Place → Place
+image lead k = place_product k.monomial (lead k.position)
+
+-- the least common multiple of the leads of two rows that stand at one position
+abbrev pub lcm_place : (ℕ → Place) → ℕ → ℕ → Place
+lcm_place lead i j = record { position = (lead i).position; monomial = lcm (lead i).monomial (lead j).monomial }
+
+-- the coefficient's place at row i whose image is the least common multiple of the leads of rows i and j
+abbrev pub pair_place : (ℕ → Place) → ℕ → ℕ → Place
+pair_place lead i j = record { position = i; monomial = quotient (lcm (lead i).monomial (lead j).monomial) (lead i).monomial }
+
+-- the coefficients of the S-vector of rows i and j: what takes both leads to their least common multiple, and there to 0
+abbrev pub pair_terms : ℕ → (ℕ → Place) → ℕ → ℕ → List (Term Place)
+pair_terms p lead i j = record { at = pair_place lead i j; coefficient = 1 } ∷ (record { at = pair_place lead j i; coefficient = negative_mod p 1 } ∷ [])
+
+-- the S-vector of rows i and j
+abbrev pub s_vector : ℕ → List Vector → ℕ → ℕ → List (Term Place)
+s_vector p rows i j = row_combination p rows (pair_terms p (lead_at rows) i j)
+
+-- the degree of a place: that of its generator and the sum of the exponents
+abbrev pub place_degree : List ℤ → Place → ℤ
+place_degree degrees k = generator_degree degrees k.position +ℤ pos (exponent_sum k.monomial)
+
+-- a term stands for one of the rows
+abbrev pub IsForRows : List Vector → Term Place → Type 0
+IsForRows rows t = t.at.position < length rows
+
+-- a coefficient for one of the rows, whose image is less than b
+abbrev pub HasImageBelow : List Vector → Place → Term Place → Type 0
+HasImageBelow rows b t = IsForRows rows t × (place_cmp (image (lead_at rows) t.at) b ≡ Less)
+
+-- the pair of rows i and j reduces to zero: its S-vector is a combination of rows whose images are less than the least common multiple
+pub record ReducesToZero (p : ℕ) (rows : List Vector) (i j : ℕ) : Type 0 where
+  pub steps : List (Term Place)
+  pub below : AllByRecursion (HasImageBelow rows (lcm_place (lead_at rows) i j)) steps
+  pub value : row_combination p rows steps ≡ s_vector p rows i j
+
+-- z is a syzygy of the pair of rows i and j: the coefficients of its S-vector without those of such a combination
+pub record IsPairSyzygy (p : ℕ) (rows : List Vector) (i j : ℕ) (z : List (Term Place)) : Type 0 where
+  pub steps : List (Term Place)
+  pub below : AllByRecursion (HasImageBelow rows (lcm_place (lead_at rows) i j)) steps
+  pub sum : add place_cmp p z steps ≡ normal place_cmp p (pair_terms p (lead_at rows) i j)
+  pub zero : row_combination p rows z ≡ []
+
+-- a row without zero coefficients whose lead has the coefficient 1
+pub record IsMonicRow (p : ℕ) (v : Vector) : Type 0 where
+  pub canonical : IsCanonical place_cmp p v.terms
+  pub monic : IsMonic v.terms
+
+-- the leads of two rows stand at one position
+abbrev pub HaveLeadsAtOnePosition : List Vector → ℕ → ℕ → Type 0
+HaveLeadsAtOnePosition rows i j = (lead_at rows i).position ≡ (lead_at rows j).position
