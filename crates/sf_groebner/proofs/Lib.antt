@@ -8,3 +8,5 @@ pub mod Modules
 pub mod Apart
 pub mod Sorted
 pub mod UniqueBases
+pub mod PartSums
+pub mod Spans

@@ -7,3 +7,4 @@ pub mod MinimalGenerators
 pub mod Presentations
 pub mod Homology
 pub mod Resolutions
+pub mod BasisLaws

@@ -3,3 +3,7 @@
 //! The definitions are in `specs/`, the lemmas in `proofs/`. The functions here do nothing: the
 //! contract of each is a law of the definitions.
 #![tactic(auto)]
+
+mod bases;
+
+pub use bases::reduced_bases_are_unique;
