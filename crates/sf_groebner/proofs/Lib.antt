@@ -10,3 +10,5 @@ pub mod Sorted
 pub mod UniqueBases
 pub mod PartSums
 pub mod Spans
+pub mod PartLeads
+pub mod ReducedParts
