@@ -12,3 +12,11 @@ pub mod PartSums
 pub mod Spans
 pub mod PartLeads
 pub mod ReducedParts
+pub mod FirstParts
+pub mod Pairs
+pub mod SameModules
+pub mod GraphParts
+pub mod Remainders
+pub mod Lifts
+pub mod GraphLifts
+pub mod Relations

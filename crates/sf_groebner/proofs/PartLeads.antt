@@ -1,5 +1,5 @@
 -- Leads of parts of vectors.
-use Rattle.std.proofs.Common.{◌≡◌, ◌⊎◌, inl, inr, Bool, true, false, ◌&&◌, ◌==◌, not, ◌-◌, eqb, ℕ, ◌<◌, ◌≤◌, List, [], ◌∷◌, refl, sym, ◌∙◌, ap, subst, arith}
+use Rattle.std.proofs.Common.{◌≡◌, inl, inr, true, false, ◌&&◌, ◌-◌, eqb, ℕ, ◌<◌, ◌≤◌, List, [], ◌∷◌, refl, sym, ◌∙◌, ap, arith}
 use Rattle.std.specs.List.{AllByRecursion}
 use Rattle.std.specs.Ordering.{nat_cmp, ordering_then}
 use Rattle.std.proofs.lemmas.Bool.{cases_lt}
@@ -7,11 +7,11 @@ use Rattle.std.proofs.lemmas.Bool.Decides.{nat_tests}
 use Rattle.sf_algebra.specs.MatrixOperations.{part_terms}
 use Rattle.sf_algebra.specs.Monomials.{monomial_cmp}
 use Rattle.sf_algebra.specs.Terms.{Term, IsDescending}
-use Rattle.sf_algebra.specs.Vectors.{Place, Vector, place_cmp}
+use Rattle.sf_algebra.specs.Vectors.{Place, place_cmp}
 use Rattle.sf_algebra.proofs.Entries.{IsDescending-positions}
 use Rattle.sf_algebra.proofs.PartTerms.{moved_back, IsBetween, part_terms-inside, part_terms-outside}
 use Rattle.sf_groebner.specs.Cuts.{has_terms}
-use Rattle.sf_groebner.specs.Leads.{divides, place_divides}
+use Rattle.sf_groebner.specs.Leads.{divides}
 use Rattle.sf_groebner.specs.ReducedBases.{lead_divides, lead_cmp}
 
 -- the lead of a list stands in the range
@@ -52,7 +52,8 @@ pub part_terms-before : (from to : ℕ) (ts : List (Term Place)) → AllByRecurs
 part_terms-before from to [] h = refl
 part_terms-before from to (t ∷ ts) h = part_terms-outside from to t ts (inl h.0) ∙ part_terms-before from to ts h.1
 
-later_positions : (n : ℕ) (t : Term Place) (ts : List (Term Place)) → IsDescending place_cmp (t ∷ ts) → n ≤ t.at.position → AllByRecursion (λ u. n ≤ u.at.position) (t ∷ ts)
+-- no term of a descending list stands before its lead
+pub later_positions : (n : ℕ) (t : Term Place) (ts : List (Term Place)) → IsDescending place_cmp (t ∷ ts) → n ≤ t.at.position → AllByRecursion (λ u. n ≤ u.at.position) (t ∷ ts)
 later_positions n t ts h reached = (reached, weaken ts (IsDescending-positions t ts h))
   where
     weaken : (us : List (Term Place)) → AllByRecursion (λ u. t.at.position ≤ u.at.position) us → AllByRecursion (λ u. n ≤ u.at.position) us

@@ -1,11 +1,9 @@
 -- Parts of the elements of a reduced basis are a reduced basis of the module of such parts, where they take the leads along.
-use Rattle.std.proofs.Common.{◌≡◌, inl, inr, Bool, true, false, ◌||◌, ℕ, ◌≤◌, ◌<◌, List, [], ◌∷◌, filter, map, refl, sym, ◌∙◌, ap, subst}
+use Rattle.std.proofs.Common.{◌≡◌, Bool, true, false, ◌||◌, ℕ, List, [], ◌∷◌, filter, map, refl, sym, ◌∙◌, ap, subst}
 use Rattle.std.specs.Bool.{IsFalse}
 use Rattle.std.specs.declared.cmp.Ordering.TheVariants.{Less}
 use Rattle.std.specs.List.{AllByRecursion}
 use Rattle.std.specs.Ordering.{int_cmp, ordering_then}
-use Rattle.std.proofs.lemmas.Bool.{cases_Bool}
-use Rattle.std.proofs.lemmas.Bool.Decides.{Decides-eqb}
 use Rattle.sf_algebra.specs.MatrixOperations.{part_terms}
 use Rattle.sf_algebra.specs.Terms.{Term}
 use Rattle.sf_algebra.specs.Vectors.{Place, Vector}
@@ -14,8 +12,8 @@ use Rattle.sf_algebra.proofs.PartTerms.{moved_back, IsBetween, part_terms-inside
 use Rattle.sf_groebner.specs.Cuts.{part_of}
 use Rattle.sf_groebner.specs.Leads.{place_divides}
 use Rattle.sf_groebner.specs.ReducedBases.{lead_divides, is_divided, IsMonic, HasDividedLead, IsReducedBy, AreApart, IsApart, row_cmp, IsSorted, IsReducedBasis}
-use Rattle.sf_groebner.proofs.Apart.{IsMonic-lead}
-use Rattle.sf_groebner.proofs.Items.{IsItem, AllByRecursion-item, AllByRecursion-both, AllByRecursion-filter_map, list_any-item, list_any-from_item, IsItem-filter, IsItem-map}
+use Rattle.sf_groebner.proofs.Apart.{IsMonic-lead, IsReducedBy-each}
+use Rattle.sf_groebner.proofs.Items.{AllByRecursion-item, AllByRecursion-both, AllByRecursion-filter_map, list_any-item, list_any-from_item, IsItem-filter, IsItem-map}
 use Rattle.sf_groebner.proofs.PartLeads.{HasLeadBetween, lead_divides-part, lead_cmp-part}
 use Rattle.sf_groebner.proofs.PlaceDivisors.{Decides-place_divides}
 
@@ -28,7 +26,7 @@ pub record IsPart (from to : ℕ) (keep : Vector → Bool) (N P : Vector → Typ
 
 module _ (from to : ℕ) (keep : Vector → Bool) (N P : Vector → Type 0) (cut : IsPart from to keep N P) where
   -- what is known of an element of a basis
-  abbrev IsElement : Vector → Type 0
+  abbrev pub IsElement : Vector → Type 0
   IsElement w = N w × IsMonic w.terms
 
   pub HasLeadBetween-kept : (w : Vector) → IsElement w → keep w ≡ true → HasLeadBetween from to w.terms
@@ -45,16 +43,27 @@ module _ (from to : ℕ) (keep : Vector → Bool) (N P : Vector → Type 0) (cut
       AllByRecursion-part_terms (λ (t : Term Place). IsFalse (is_divided (w ∷ []) t.at)) (λ (t : Term Place). IsFalse (is_divided (part_of from to w ∷ []) t.at)) from to
       (λ t reached within e. ap (λ b. b || false) (lead_divides-part from to w.terms t h reached) ∙ e) v.terms free
 
+  -- what no kept element divides has a part that none of their parts divides
+  pub reduced_by-parts : (basis : List Vector) → AllByRecursion IsElement basis → (v : Vector) → AllByRecursion (λ w. keep w ≡ true → IsReducedBy (w ∷ []) v.terms) basis
+      → IsReducedBy (map (part_of from to) (filter keep basis)) (part_terms from to v.terms)
+  reduced_by-parts basis each v free =
+      IsReducedBy-each (map (part_of from to) (filter keep basis)) (part_terms from to v.terms)
+      (AllByRecursion-filter_map (λ w. IsElement w × (keep w ≡ true → IsReducedBy (w ∷ []) v.terms)) (λ w. IsReducedBy (w ∷ []) (part_terms from to v.terms)) keep (part_of from to)
+      (λ w k h. part-reduced v w (HasLeadBetween-kept w h.0 k) (h.1 k)) basis
+      (AllByRecursion-both IsElement _ (λ w. IsElement w × (keep w ≡ true → IsReducedBy (w ∷ []) v.terms)) (λ w a b. (a, b)) basis each free))
+
   part-apart : (basis : List Vector) → AllByRecursion IsElement basis → IsApart basis → IsApart (map (part_of from to) (filter keep basis))
   part-apart [] each apart = tt
   part-apart (v ∷ vs) each apart =
       let rest = part-apart vs each.1 apart.1 in
       cond_cases (keep v) (v ∷ filter keep vs) (filter keep vs) (λ l. IsApart (map (part_of from to) l))
       (λ e.
-      let here = HasLeadBetween-kept v each.0 e in
-      (AllByRecursion-filter_map (λ w. IsElement w × AreApart v w) (AreApart (part_of from to v)) keep (part_of from to)
-      (λ w k h. (part-reduced v w (HasLeadBetween-kept w h.0 k) h.1.0, part-reduced w v here h.1.1)) vs
-      (AllByRecursion-both IsElement (AreApart v) (λ w. IsElement w × AreApart v w) (λ w a b. (a, b)) vs each.1 apart.0), rest))
+      let here = HasLeadBetween-kept v each.0 e in (
+        AllByRecursion-filter_map (λ w. IsElement w × AreApart v w) (AreApart (part_of from to v)) keep (part_of from to)
+            (λ w k h. (part-reduced v w (HasLeadBetween-kept w h.0 k) h.1.0, part-reduced w v here h.1.1)) vs
+            (AllByRecursion-both IsElement (AreApart v) (λ w. IsElement w × AreApart v w) (λ w a b. (a, b)) vs each.1 apart.0),
+        rest,
+      ))
       (λ e. rest)
 
   part-sorted : (basis : List Vector) → AllByRecursion IsElement basis → IsSorted basis → IsSorted (map (part_of from to) (filter keep basis))
@@ -63,10 +72,12 @@ module _ (from to : ℕ) (keep : Vector → Bool) (N P : Vector → Type 0) (cut
       let rest = part-sorted vs each.1 sorted.1 in
       cond_cases (keep v) (v ∷ filter keep vs) (filter keep vs) (λ l. IsSorted (map (part_of from to) l))
       (λ e.
-      let here = HasLeadBetween-kept v each.0 e in
-      (AllByRecursion-filter_map (λ w. IsElement w × (row_cmp v w ≡ Less)) (λ w. row_cmp (part_of from to v) w ≡ Less) keep (part_of from to)
-      (λ w k h. ap (ordering_then (int_cmp v.degree w.degree)) (lead_cmp-part from to w.terms v.terms (HasLeadBetween-kept w h.0 k) here) ∙ h.1) vs
-      (AllByRecursion-both IsElement (λ w. row_cmp v w ≡ Less) (λ w. IsElement w × (row_cmp v w ≡ Less)) (λ w a b. (a, b)) vs each.1 sorted.0), rest))
+      let here = HasLeadBetween-kept v each.0 e in (
+        AllByRecursion-filter_map (λ w. IsElement w × (row_cmp v w ≡ Less)) (λ w. row_cmp (part_of from to v) w ≡ Less) keep (part_of from to)
+            (λ w k h. ap (ordering_then (int_cmp v.degree w.degree)) (lead_cmp-part from to w.terms v.terms (HasLeadBetween-kept w h.0 k) here) ∙ h.1) vs
+            (AllByRecursion-both IsElement (λ w. row_cmp v w ≡ Less) (λ w. IsElement w × (row_cmp v w ≡ Less)) (λ w a b. (a, b)) vs each.1 sorted.0),
+        rest,
+      ))
       (λ e. rest)
 
   -- a lead that divides the lead of a kept vector is that of a kept one
@@ -105,10 +116,13 @@ module _ (from to : ℕ) (keep : Vector → Bool) (N P : Vector → Type 0) (cut
           let lift = cut.lifted v h t ts e in
           lead_of_part lift.0 lift.1 lift.2 lift.0.terms refl t ts (ap (λ x. x.terms) lift.3 ∙ e)
 
+  pub elements : (basis : List Vector) → IsReducedBasis N basis → AllByRecursion IsElement basis
+  elements basis h = AllByRecursion-both N (λ (w : Vector). IsMonic w.terms) IsElement (λ w a b. (a, b)) basis h.inside h.monic
+
   -- the parts of the kept elements
   pub reduced_part : (basis : List Vector) → IsReducedBasis N basis → IsReducedBasis P (map (part_of from to) (filter keep basis))
   reduced_part basis h =
-      let each = AllByRecursion-both N (λ (w : Vector). IsMonic w.terms) IsElement (λ w a b. (a, b)) basis h.inside h.monic in
+      let each = elements basis h in
       record {
         inside = AllByRecursion-filter_map N P keep (part_of from to) (λ w e k. cut.inside w k e) basis h.inside;
         monic = AllByRecursion-filter_map IsElement (λ (w : Vector). IsMonic w.terms) keep (part_of from to) (λ w e k. part-monic w.terms (HasLeadBetween-kept w k e) k.1) basis each;

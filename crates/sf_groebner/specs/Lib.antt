@@ -9,3 +9,5 @@ pub mod Homology
 pub mod Resolutions
 pub mod BasisLaws
 pub mod Cuts
+pub mod CutLaws
+pub mod LiftLaws

@@ -5,5 +5,11 @@
 #![tactic(auto)]
 
 mod bases;
+mod graph;
+mod lift;
+mod stack;
 
 pub use bases::reduced_bases_are_unique;
+pub use graph::graph_parts;
+pub use lift::lifts_are_unique;
+pub use stack::stack_parts;
