@@ -25,7 +25,7 @@ moved_back by t = record { at = record { position = t.at.position - by; monomial
 abbrev pub IsBetween : ℕ → ℕ → ℕ → Type 0
 IsBetween from to i = (from ≤ i) × (i < to)
 
-cases_between : (from to i : ℕ) → (IsBetween from to i) ⊎ ((i < from) ⊎ (to ≤ i))
+pub cases_between : (from to i : ℕ) → (IsBetween from to i) ⊎ ((i < from) ⊎ (to ≤ i))
 cases_between from to i = elim (cases_lt i from) [
   | inl before ↦ inr (inl before)
   | inr reached ↦ elim (cases_lt i to) [

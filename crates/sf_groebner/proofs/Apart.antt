@@ -1,5 +1,5 @@
 -- Lists of vectors that are apart: what divides their terms.
-use Rattle.std.proofs.Common.{◌≡◌, inl, inr, Bool, true, false, ◌||◌, List, [], ◌∷◌, refl, sym, ◌∙◌, ap, subst}
+use Rattle.std.proofs.Common.{◌≡◌, ◌≢◌, inl, inr, Bool, true, false, ◌||◌, List, [], ◌∷◌, refl, sym, ◌∙◌, ap, subst}
 use Rattle.std.specs.Ordering.{ordering_reverse}
 use Rattle.std.specs.declared.cmp.Ordering.TheVariants.{Less, Greater}
 use Rattle.std.specs.List.{AllByRecursion}
@@ -83,3 +83,11 @@ IsApart-tail (x ∷ xs) v t us e apart (inr item) own =
     let first : IsReducedBy (x ∷ []) (t ∷ us) = subst (IsReducedBy (x ∷ [])) e (AllByRecursion-item (AreApart x) xs v apart.0 item).1 in
     AllByRecursion-both _ _ _ (λ u h free. ap (λ b. b || is_divided xs u.at) (or_first_false (lead_divides x.terms u.at) false h) ∙ free) us first.1
     (IsApart-tail xs v t us e apart.1 item own)
+
+-- of two of the vectors, the lead of one divides no term of the other
+pub IsApart-items : (vs : List Vector) (v w : Vector) → IsApart vs → IsItem v vs → IsItem w vs → v ≢ w → IsReducedBy (w ∷ []) v.terms
+IsApart-items [] v w apart item other differ = absurd item
+IsApart-items (x ∷ xs) v w apart (inl first) (inl second) differ = absurd (differ (first ∙ sym second))
+IsApart-items (x ∷ xs) v w apart (inl first) (inr other) differ = subst (λ y. IsReducedBy (w ∷ []) y.terms) (sym first) (AllByRecursion-item (AreApart x) xs w apart.0 other).0
+IsApart-items (x ∷ xs) v w apart (inr item) (inl second) differ = subst (λ y. IsReducedBy (y ∷ []) v.terms) (sym second) (AllByRecursion-item (AreApart x) xs v apart.0 item).1
+IsApart-items (x ∷ xs) v w apart (inr item) (inr other) differ = IsApart-items xs v w apart.1 item other differ

@@ -1,6 +1,7 @@
 -- The items of a list.
-use Rattle.std.proofs.Common.{◌≡◌, ◌⊎◌, inl, inr, Bool, true, false, ◌||◌, List, [], ◌∷◌, map, refl, sym, ◌∙◌, ap, subst}
+use Rattle.std.proofs.Common.{◌≡◌, ◌⊎◌, inl, inr, Bool, true, false, ◌||◌, List, [], ◌∷◌, filter, map, refl, sym, ◌∙◌, ap, subst}
 use Rattle.std.specs.List.{AllByRecursion, list_any}
+use Rattle.sf_algebra.proofs.Filters.{cond_cases}
 
 -- x is an item of the list
 abbrev pub IsItem : {X : Type 0} → X → List X → Type 0
@@ -47,3 +48,29 @@ pub IsItem-map : {X Y : Type 0} (f : X → Y) (xs : List X) (x : X) → IsItem x
 IsItem-map f [] x item = absurd item
 IsItem-map f (y ∷ ys) x (inl same) = inl (ap f same)
 IsItem-map f (y ∷ ys) x (inr item) = inr (IsItem-map f ys x item)
+
+pub list_any-from_item : {X : Type 0} (test : X → Bool) (xs : List X) (x : X) → IsItem x xs → test x ≡ true → list_any test xs ≡ true
+list_any-from_item test [] x item h = absurd item
+list_any-from_item test (y ∷ ys) x (inl same) h = let here : test y ≡ true = ap test (sym same) ∙ h in ap (λ b. b || list_any test ys) here
+list_any-from_item test (y ∷ ys) x (inr item) h = or_second (test y) (list_any test ys) (list_any-from_item test ys x item h)
+  where
+    or_second : (a b : Bool) → b ≡ true → (a || b) ≡ true
+    or_second true b e = refl
+    or_second false b e = e
+
+-- an item that passes a test
+pub IsItem-filter : {X : Type 0} (test : X → Bool) (xs : List X) (x : X) → IsItem x xs → test x ≡ true → IsItem x (filter test xs)
+IsItem-filter test [] x item h = absurd item
+IsItem-filter test (y ∷ ys) x (inl same) h =
+    cond_cases (test y) (y ∷ filter test ys) (filter test ys) (IsItem x) (λ e. inl same) (λ e. let clash : true ≡ false = sym h ∙ ap test same ∙ e in cc)
+IsItem-filter test (y ∷ ys) x (inr item) h =
+    let rest = IsItem-filter test ys x item h in
+    cond_cases (test y) (y ∷ filter test ys) (filter test ys) (IsItem x) (λ e. inr rest) (λ e. rest)
+
+-- a fact of each item that passes
+pub AllByRecursion-filter_map : {X Y : Type 0} (P : X → Type 0) (Q : Y → Type 0) (test : X → Bool) (f : X → Y) → ((x : X) → test x ≡ true → P x → Q (f x))
+    → (xs : List X) → AllByRecursion P xs → AllByRecursion Q (map f (filter test xs))
+AllByRecursion-filter_map P Q test f g [] h = tt
+AllByRecursion-filter_map P Q test f g (x ∷ xs) h =
+    let rest = AllByRecursion-filter_map P Q test f g xs h.1 in
+    cond_cases (test x) (x ∷ filter test xs) (filter test xs) (λ l. AllByRecursion Q (map f l)) (λ e. (g x e h.0, rest)) (λ e. rest)

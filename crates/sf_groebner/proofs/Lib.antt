@@ -23,3 +23,14 @@ pub mod Schreyer
 pub mod BoundedCriterion
 pub mod SVectors
 pub mod GrowingRows
+pub mod PartSums
+pub mod Spans
+pub mod PartLeads
+pub mod ReducedParts
+pub mod FirstParts
+pub mod SameModules
+pub mod GraphParts
+pub mod Remainders
+pub mod Lifts
+pub mod GraphLifts
+pub mod Relations

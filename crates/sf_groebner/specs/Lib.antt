@@ -8,3 +8,7 @@ pub mod Presentations
 pub mod Homology
 pub mod Resolutions
 pub mod Criterion
+pub mod BasisLaws
+pub mod Cuts
+pub mod CutLaws
+pub mod LiftLaws

@@ -3,3 +3,13 @@
 //! The definitions are in `specs/`, the lemmas in `proofs/`. The functions here do nothing: the
 //! contract of each is a law of the definitions.
 #![tactic(auto)]
+
+mod bases;
+mod graph;
+mod lift;
+mod stack;
+
+pub use bases::reduced_bases_are_unique;
+pub use graph::graph_parts;
+pub use lift::lifts_are_unique;
+pub use stack::stack_parts;

@@ -1,0 +1,66 @@
+-- The first and the last parts of a module's vectors, by a position that parts them.
+use Rattle.std.proofs.Common.{◌≡◌, Bool, true, false, not, ℕ, ◌<◌, List, [], ◌∷◌, length, slice_range, refl, sym, ◌∙◌, ap, subst, ℤ, arith}
+use Rattle.std.specs.List.{AllByRecursion}
+use Rattle.sf_algebra.specs.MatrixOperations.{part_terms}
+use Rattle.sf_algebra.specs.Terms.{Term, IsDescending}
+use Rattle.sf_algebra.specs.Vectors.{Place, Vector, place_cmp, IsVector}
+use Rattle.sf_algebra.proofs.PartTerms.{IsVector-part_terms}
+use Rattle.sf_groebner.specs.Cuts.{has_terms, part_of, has_first_part, first_parts, last_parts}
+use Rattle.sf_groebner.specs.ReducedBases.{IsReducedBasis}
+use Rattle.sf_groebner.proofs.Modules.{difference, IsModuleLike}
+use Rattle.sf_groebner.proofs.PartSums.{part_terms-difference}
+use Rattle.sf_groebner.proofs.PartLeads.{has_terms-first, has_terms-later, has_terms-position, has_no_terms-position, has_terms-none}
+use Rattle.sf_groebner.proofs.ReducedParts.{IsPart, reduced_part}
+
+module _ (p : ℕ) (degrees : List ℤ) (N : Vector → Type 0) (vectors : (v : Vector) → N v → IsVector p degrees v) (n : ℕ) where
+  descending : (w : Vector) → N w → (t : Term Place) (ts : List (Term Place)) → w.terms ≡ t ∷ ts → IsDescending place_cmp (t ∷ ts)
+  descending w h t ts e = subst (IsDescending place_cmp) e (vectors w h).canonical.descending
+
+  -- v is the part of a vector of the module at the first n positions
+  abbrev pub IsFirstPart : Vector → Type 0
+  IsFirstPart v = (w : Vector) × N w × (part_of 0 n w ≡ v)
+
+  pub first_part : IsPart 0 n (has_first_part n) N IsFirstPart
+  first_part = record {
+    kept = λ w h k t ts e. (omega arith, has_terms-position n t ts (descending w h t ts e) (sym (ap (λ us. has_terms (part_terms 0 n us)) e) ∙ k));
+    keeps = λ w h t ts e between. ap (λ us. has_terms (part_terms 0 n us)) e ∙ has_terms-first n t ts between.1;
+    inside = λ w h k. (w, h, refl);
+    lifted = λ v h t ts e. (h.0, h.1, ap (λ (x : Vector). has_terms x.terms) h.2 ∙ ap has_terms e, h.2);
+  }
+
+  -- the nonzero first parts of the elements are the reduced basis of the first parts of all vectors
+  pub reduced-first_parts : (basis : List Vector) → IsReducedBasis N basis → IsReducedBasis IsFirstPart (first_parts n basis)
+  reduced-first_parts basis h = reduced_part 0 n (has_first_part n) N IsFirstPart first_part basis h
+
+  -- differences of first parts are first parts
+  pub first_part_module : 0 < p → ((u v : Vector) → N u → N v → u.degree ≡ v.degree → N (difference p u v)) → IsModuleLike p (slice_range degrees 0 n) IsFirstPart
+  first_part_module positive differences = record {
+    vectors = λ v h. subst (IsVector p (slice_range degrees 0 n)) h.2 (IsVector-part_terms p degrees 0 n h.0 (vectors h.0 h.1));
+    differences = λ u v h k e. (
+      difference p h.0 k.0,
+      differences h.0 k.0 h.1 k.1 (ap (λ x. x.degree) h.2 ∙ e ∙ sym (ap (λ x. x.degree) k.2)),
+      (λ i. record { degree = h.0.degree; terms = part_terms-difference p 0 n positive h.0.terms k.0.terms i }) ∙ (λ i. difference p (h.2 i) (k.2 i)),
+    );
+  }
+
+  -- v is the part behind, of a vector of the module that has no term at the first n positions
+  abbrev pub IsLastPart : Vector → Type 0
+  IsLastPart v = (w : Vector) × N w × (part_terms 0 n w.terms ≡ []) × (part_of n (length degrees) w ≡ v)
+
+  not_true : (b : Bool) → not b ≡ true → b ≡ false
+  not_true true e = cc
+  not_true false e = refl
+
+  pub last_part : IsPart n (length degrees) (λ (w : Vector). not (has_first_part n w)) N IsLastPart
+  last_part = record {
+    kept = λ w h k t ts e. (
+      has_no_terms-position n t ts (sym (ap (λ us. has_terms (part_terms 0 n us)) e) ∙ not_true (has_first_part n w) k),
+      (subst (AllByRecursion _) e (vectors w h).homogeneous).0.0,
+    );
+    keeps = λ w h t ts e between. ap not (ap (λ us. has_terms (part_terms 0 n us)) e ∙ has_terms-later n t ts (descending w h t ts e) between.0);
+    inside = λ w h k. (w, h, has_terms-none (part_terms 0 n w.terms) (not_true (has_first_part n w) k), refl);
+    lifted = λ v h t ts e. (h.0, h.1, ap (λ us. not (has_terms us)) h.2, h.3);
+  }
+
+  pub reduced-last_parts : (basis : List Vector) → IsReducedBasis N basis → IsReducedBasis IsLastPart (last_parts n (length degrees) basis)
+  reduced-last_parts basis h = reduced_part n (length degrees) (λ (w : Vector). not (has_first_part n w)) N IsLastPart last_part basis h

@@ -1,0 +1,29 @@
+-- Reduced vectors that differ by a vector of the module are equal.
+use Rattle.std.proofs.Common.{◌≡◌, true, false, ℕ, ◌<◌, Bool, List, [], ◌∷◌, refl}
+use Rattle.std.specs.Bool.{IsFalse}
+use Rattle.sf_algebra.specs.Multiples.{negative}
+use Rattle.sf_algebra.specs.Sums.{add}
+use Rattle.sf_algebra.specs.Terms.{Term, IsCanonical}
+use Rattle.sf_algebra.specs.Vectors.{Place, Vector, place_cmp}
+use Rattle.sf_algebra.proofs.Keys.{place_keys}
+use Rattle.sf_algebra.proofs.Negatives.{EachPlace-negative}
+use Rattle.sf_algebra.proofs.Normal.{EachPlace-add}
+use Rattle.sf_groebner.specs.ReducedBases.{is_divided, HasDividedLead, IsReducedBy}
+use Rattle.sf_groebner.proofs.Differences.{add-negative_same}
+use Rattle.sf_groebner.proofs.Modules.{difference}
+
+-- what is reduced and has a divided lead is 0
+pub IsReducedBy-none : (basis : List Vector) (ts : List (Term Place)) → IsReducedBy basis ts → HasDividedLead basis ts → ts ≡ []
+IsReducedBy-none basis [] free divided = refl
+IsReducedBy-none basis (t ∷ ts) free divided = absurd (clash (is_divided basis t.at) divided free.0)
+  where
+    clash : (b : Bool) → b ≡ true → b ≡ false → ⊥
+    clash b h k = cc
+
+pub same_reduced : (p : ℕ) → 0 < p → (basis : List Vector) (u v : Vector) → IsCanonical place_cmp p u.terms → IsCanonical place_cmp p v.terms
+    → HasDividedLead basis (difference p u v).terms → IsReducedBy basis u.terms → IsReducedBy basis v.terms → u.terms ≡ v.terms
+same_reduced p positive basis u v h k divided free_u free_v =
+    add-negative_same place_keys p positive u.terms v.terms h k
+    (IsReducedBy-none basis (add place_cmp p u.terms (negative p v.terms))
+    (EachPlace-add (λ l. IsFalse (is_divided basis l)) place_cmp p u.terms (negative p v.terms) free_u (EachPlace-negative (λ l. IsFalse (is_divided basis l)) p v.terms free_v))
+    divided)

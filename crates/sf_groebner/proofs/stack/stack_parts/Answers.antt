@@ -1,0 +1,13 @@
+use Rattle.sf_algebra.specs.Matrices.{row_degrees}
+use Rattle.sf_algebra.specs.MatrixOperations.{stacked}
+use Rattle.sf_groebner.specs.Spans.{IsSyzygy}
+use Rattle.sf_groebner.proofs.FirstParts.{reduced-first_parts}
+use Rattle.sf_groebner.proofs.Relations.{IsRelation-blocks}
+use Rattle.sf_groebner.proofs.stack.stack_parts.Goals as goal
+use Rattle.std.proofs.Common.{length}
+
+pub returns : goal.returns
+returns c = record {
+  basis = λ a b positive. reduced-first_parts a.modulus (row_degrees (stacked a b)) (IsSyzygy (stacked a b)) (λ w h. h.coefficients) (length a.rows);
+  relations = λ a b positive moduli v. IsRelation-blocks a b positive moduli v;
+}
