@@ -10,13 +10,14 @@ use std::cmp::Ordering;
 
 impl Term {
     /// Compares where two terms stand: an earlier generator is greater, and at one generator the monomials decide.
+    #[inline]
     pub fn cmp_place(&self, other: &Term) -> Ordering
         ensures { result ≡ place_cmp self.now.at other.now.at }
     {
-        other
-            .position
-            .cmp(&self.position)
-            .then(self.monomial.cmp(&other.monomial))
+        match other.position.cmp(&self.position) {
+            Ordering::Equal => self.monomial.cmp(&other.monomial),
+            unequal => unequal,
+        }
     }
 }
 

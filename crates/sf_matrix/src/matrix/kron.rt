@@ -102,7 +102,8 @@ fn kronecker_terms(
     ensures terms { IfOk result (λ v. v.items ≡ kronecker_terms modulus columns left.now right.now) }
     ensures canonical { IfOk result (λ v. IsCanonical place_cmp modulus v.items) }
 {
-    let mut products = Vec::new(alloc);
+    let products = left.len().saturating_mul(right.len());
+    let mut products = Vec::with_capacity(alloc, products)?;
     for factor in left {
         let by = factor.position * columns;
         push_moved_multiple(&mut products, modulus, factor, by, right)?;

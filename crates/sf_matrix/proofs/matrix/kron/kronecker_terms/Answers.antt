@@ -11,7 +11,7 @@ use Rattle.sf_matrix.specs.Places.{factor_of}
 use Rattle.sf_matrix.proofs.matrix.kron.kronecker_terms.Goals as goal
 
 pub loop-factor-init : goal.loop-factor-init
-loop-factor-init c = c.new-products.ensures.items ∙ sym (combination_terms-nil place_product c.args.modulus (λ k. k.monomial) (λ k. moved (k.position * c.args.columns) c.args.right.now))
+loop-factor-init c = c.in_ok-products.ensures.items ∙ sym (combination_terms-nil place_product c.args.modulus (λ k. k.monomial) (λ k. moved (k.position * c.args.columns) c.args.right.now))
 
 pub overflow_mul-by : goal.overflow_mul-by
 overflow_mul-by c =
