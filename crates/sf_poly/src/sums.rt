@@ -32,7 +32,7 @@ pub fn add_terms(
     ensures sum { IfOk result (λ v. v.items ≡ add monomial_cmp modulus left.now right.now) }
     ensures canonical { IfOk result (λ v. IsCanonical monomial_cmp modulus v.items) }
 {
-    let mut sum = Vec::new(alloc);
+    let mut sum = Vec::with_capacity(alloc, left.len().saturating_add(right.len()))?;
     while let ([t, ts @ ..], [u, us @ ..]) = (left, right) {
         match t.monomial.cmp(&u.monomial) {
             Ordering::Greater => {
