@@ -20,12 +20,7 @@ generator_degree-flat [] i h below = absurd (omega arith)
 generator_degree-flat (d ∷ ds) zero h below = h.0
 generator_degree-flat (d ∷ ds) (suc i) h below = generator_degree-flat ds i h.1 (omega arith)
 
--- a term of degree 1 at a generator that is there
-pub IsTermOfDegree-flat : (ds : List ℤ) (t : Term Place) → AllByRecursion (λ (d : ℤ). d ≡ pos 0) ds → t.at.position < length ds → exponent_sum t.at.monomial ≡ 1 → IsTermOfDegree ds (pos 1) t
-IsTermOfDegree-flat ds t h below sum =
-    let degree = generator_degree-flat ds t.at.position h below in
-    (below, omega (arith, ints, degree, sum))
-
+-- degree 0 is low
 lows-flat : (ds : List ℤ) → AllByRecursion (λ (d : ℤ). d ≡ pos 0) ds → AllByRecursion IsLow ds
 lows-flat ds h = AllByRecursion-weaken _ IsLow (λ d e. (omega (arith, ints, e), omega (arith, ints, e))) ds h
 
