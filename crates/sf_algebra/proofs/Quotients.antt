@@ -33,7 +33,6 @@ module _ {R : Type 0} (G H : Group R) (f : G.V → H.V) (map : IsMap G H f) (Z B
   acts-Mod acts u v h = Mod-map G H f map B A acts.bounds u v h
 
   -- where the relations are a sum of two parts, it is enough that both go into A
-  -- it is enough that generators of B, modulo nothing, go into A
   pub acts-SumOf : (M N : G.V → Type 0) → IsSub H A → IsWithin Z (PreimageOf f Y) → IsWithin M (PreimageOf f A) → IsWithin N (PreimageOf f A) → ActsOnQuotients f Z (SumOf G M N) Y A
   acts-SumOf M N sub elements first second = record {
     elements = elements;

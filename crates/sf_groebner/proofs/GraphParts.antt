@@ -12,7 +12,7 @@ use Rattle.sf_groebner.specs.Cuts.{part_of, first_parts, last_parts}
 use Rattle.sf_groebner.specs.ReducedBases.{IsReducedBasis}
 use Rattle.sf_groebner.specs.Spans.{IsCoefficients, combined, InSpan, IsSyzygy, graph_degrees, value_terms, coefficient_terms, IsGraphVector}
 use Rattle.sf_groebner.proofs.FirstParts.{reduced-first_parts, reduced-last_parts}
-use Rattle.sf_groebner.proofs.Pairs.{pair_terms, part_terms-pair_first, part_terms-pair_last, IsVector-pair}
+use Rattle.sf_groebner.proofs.PairedVectors.{pair_terms, part_terms-pair_first, part_terms-pair_last, IsVector-pair}
 use Rattle.sf_groebner.proofs.SameModules.{IsReducedBasis-same}
 use Rattle.sf_groebner.proofs.Spans.{span_module}
 

@@ -26,6 +26,7 @@ pub mod GrowingRows
 pub mod PartSums
 pub mod Spans
 pub mod PartLeads
+pub mod PairedVectors
 pub mod ReducedParts
 pub mod FirstParts
 pub mod SameModules

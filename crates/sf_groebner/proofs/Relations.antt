@@ -21,7 +21,7 @@ use Rattle.sf_groebner.specs.Presentations.{IsRelation}
 use Rattle.sf_groebner.specs.Spans.{InSpan, IsSyzygy}
 use Rattle.sf_groebner.proofs.Differences.{add-negative_same}
 use Rattle.sf_groebner.proofs.GraphParts.{IsWithin-coefficients}
-use Rattle.sf_groebner.proofs.Pairs.{pair_terms, pair_terms-parts, part_terms-pair_first, IsVector-pair}
+use Rattle.sf_groebner.proofs.PairedVectors.{pair_terms, pair_terms-parts, part_terms-pair_first, IsVector-pair}
 
 module _ (a b : Matrix) where
   stack_coefficients : (c : Vector) → IsVector a.modulus (row_degrees a ++ row_degrees b) c → IsVector a.modulus (row_degrees (stacked a b)) c
