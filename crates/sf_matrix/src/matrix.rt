@@ -111,3 +111,6 @@ impl Copied for Matrix {
         })
     }
 }
+
+#[cfg(test)]
+mod tests;

@@ -1,3 +1,5 @@
+pub mod building;
+
 use super::*;
 use sf_field::Modulus;
 use sf_mono::Mono;
@@ -49,4 +51,34 @@ fn matrix_of_two_rows(rt: HostRuntime) -> Result<(), Fail> {
     assert_eq!(rt; matrix.row(0).len(), 1);
     assert_eq!(rt; matrix.row(1).degree(), -2);
     Ok(())
+}
+
+#[test]
+fn lists_of_slices_and_vectors(rt: HostRuntime) -> Result<(), Fail> {
+    let table: [&[i32]; 3] = [&[], &[-1], &[3, 1, 2, 1]];
+    for items in table {
+        let list = List::from_slice(rt.alloc(), items)?;
+        assert_eq!(rt; list.as_slice(), items);
+        let copy = list.copy(rt.alloc())?;
+        assert_eq!(rt; copy, list);
+        let vec = list.into_vec();
+        assert_eq!(rt; vec.as_slice(), items);
+        assert_eq!(rt; List::from_vec(vec), copy);
+    }
+    Ok(())
+}
+
+#[test]
+fn bounds_of_size_and_degree(rt: HostRuntime) {
+    let table = [
+        (4096, 4096, -8000, 8000, true),
+        (0, 0, 8000, -8000, true),
+        (4097, 0, 0, 0, false),
+        (0, 4097, 0, 0, false),
+        (0, 0, -8001, 0, false),
+        (0, 0, 0, 8001, false),
+    ];
+    for (rows, cols, low, high, within) in table {
+        assert_eq!(rt; fits(rows, cols, low, high), within);
+    }
 }

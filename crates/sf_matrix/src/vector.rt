@@ -137,3 +137,6 @@ impl Copied for Vector {
         })
     }
 }
+
+#[cfg(test)]
+mod tests;
