@@ -26,7 +26,7 @@ unfolding sum_mod negative_mod
 sum_mod-one_negative p positive = let whole : 1 + (p - 1) ≡ p = omega arith in rw (add-mod-mod, whole) (mod_self p)
 
 -- a number and its product with -1
-sum_mod-negative_one : (p a : ℕ) → 0 < p → sum_mod p a (product_mod p (negative_mod p 1) a) ≡ 0
+pub sum_mod-negative_one : (p a : ℕ) → 0 < p → sum_mod p a (product_mod p (negative_mod p 1) a) ≡ 0
 sum_mod-negative_one p a positive =
     sym (sum_mod-first p a _)
     ∙ (λ i. sum_mod p (sym (product_mod-one p a) i) (product_mod-comm p (negative_mod p 1) a i))

@@ -22,3 +22,4 @@ pub mod Schreyer
 pub mod BoundedCriterion
 pub mod SVectors
 pub mod GrowingRows
+pub mod Representations
