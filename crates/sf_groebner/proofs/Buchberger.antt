@@ -1,12 +1,12 @@
 -- Buchberger's criterion: where the pairs of monic rows reduce to zero, each combination of the rows has a lead that the lead of
 -- a row divides. (Cox, Little, O'Shea, "Using Algebraic Geometry", chapter 5, section 2.)
-use Rattle.std.proofs.Common.{◌≡◌, ◌⊎◌, ⊎_elim, ℕ, ◌<◌, List, [], ◌∷◌, length, refl, sym, ◌∙◌, ap, subst}
+use Rattle.std.proofs.Common.{◌≡◌, ⊎_elim, ℕ, ◌<◌, List, [], length, sym, ◌∙◌, subst}
 use Rattle.std.specs.List.{AllByRecursion}
 use Rattle.sf_algebra.specs.Divisibility.{quotient}
-use Rattle.sf_algebra.specs.MatrixOperations.{row_at, row_combination}
+use Rattle.sf_algebra.specs.MatrixOperations.{row_combination}
 use Rattle.sf_algebra.specs.Multiples.{place_product}
 use Rattle.sf_algebra.specs.Terms.{Term}
-use Rattle.sf_algebra.specs.Vectors.{Place, Vector, place_cmp}
+use Rattle.sf_algebra.specs.Vectors.{Place, Vector}
 use Rattle.sf_algebra.proofs.Normal.{EachPlace}
 use Rattle.sf_groebner.specs.Criterion.{HaveLeadsAtOnePosition, IsForRows, IsMonicRow, ReducesToZero, image, lcm_place, lead_at, pair_place}
 use Rattle.sf_groebner.specs.Leads.{PlaceDivides}
@@ -76,7 +76,7 @@ module _ (p : ℕ) (positive : 0 < p) (rows : List Vector) where
     -- the criterion for coefficients at the places in In
     pub buchberger_at : (In : Place → Type 0) → ((k : Place) → In k → k.position < length rows)
         → ((j k : Place) → In j → In k → image (lead_at rows) j ≡ image (lead_at rows) k → j.position < k.position
-          → IsSettled p (λ u. In (place_product (cofactor (lead_at rows) j k) u)) (lead_at rows) (IsZero p positive rows) (pair_place (lead_at rows) j.position k.position) (pair_place (lead_at rows) k.position j.position))
+        → IsSettled p (λ u. In (place_product (cofactor (lead_at rows) j k) u)) (lead_at rows) (IsZero p positive rows) (pair_place (lead_at rows) j.position k.position) (pair_place (lead_at rows) k.position j.position))
         → (c : List (Term Place)) → EachPlace In c → HasDividedLead rows (row_combination p rows c)
     buchberger_at In inside pairs c h =
         ⊎_elim

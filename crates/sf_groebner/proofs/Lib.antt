@@ -23,3 +23,4 @@ pub mod BoundedCriterion
 pub mod SVectors
 pub mod GrowingRows
 pub mod Representations
+pub mod SyzygySpans

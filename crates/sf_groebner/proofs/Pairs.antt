@@ -1,7 +1,7 @@
 -- Pairs of rows: where they are settled at the least common multiples of their leads, all pairs of places with one image are.
-use Rattle.std.proofs.Common.{◌≡◌, ◌⊎◌, inl, inr, ℕ, ◌+◌, ◌-◌, ◌<◌, ◌≤◌, List, max, refl, sym, ◌∙◌, ap, subst, arith}
+use Rattle.std.proofs.Common.{◌≡◌, inl, inr, ℕ, ◌<◌, List, sym, ◌∙◌, ap, subst, arith}
 use Rattle.std.proofs.lemmas.Bool.{cases_lt}
-use Rattle.sf_algebra.specs.Divisibility.{Divides, quotient, lcm}
+use Rattle.sf_algebra.specs.Divisibility.{quotient, lcm}
 use Rattle.sf_algebra.specs.Monomials.{Monomial, product}
 use Rattle.sf_algebra.specs.Multiples.{place_product}
 use Rattle.sf_algebra.specs.Terms.{Term}
@@ -77,7 +77,7 @@ module _ (p : ℕ) (S : List (Term Place) → Type 0) (is_module : IsModule p S)
   -- all pairs of places, by the pairs of an earlier and a later row
   pub settled_pairs : 0 < p
       → ((j k : Place) → In j → In k → image lead j ≡ image lead k → j.position < k.position
-        → IsSettled p (λ u. In (place_product (cofactor lead j k) u)) lead S (pair_place lead j.position k.position) (pair_place lead k.position j.position))
+      → IsSettled p (λ u. In (place_product (cofactor lead j k) u)) lead S (pair_place lead j.position k.position) (pair_place lead k.position j.position))
       → IsAllSettled p In lead S
   settled_pairs positive pairs j k j_in k_in e =
       elim (cases_lt j.position k.position) [

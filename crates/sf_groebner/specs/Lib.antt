@@ -8,3 +8,4 @@ pub mod Presentations
 pub mod Homology
 pub mod Resolutions
 pub mod Criterion
+pub mod CriterionLaws
