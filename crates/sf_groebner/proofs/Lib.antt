@@ -24,3 +24,5 @@ pub mod SVectors
 pub mod GrowingRows
 pub mod Representations
 pub mod SyzygySpans
+pub mod PendingPairs
+pub mod HandledPairs
