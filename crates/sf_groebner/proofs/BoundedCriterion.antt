@@ -1,6 +1,6 @@
 -- Buchberger's criterion for homogeneous rows up to a degree: only the pairs count whose least common multiple is of that degree
 -- or less. (Cox, Little, O'Shea, "Using Algebraic Geometry", chapter 5, section 2.)
-use Rattle.std.proofs.Common.{◌≡◌, ℕ, ◌+◌, ◌<◌, List, [], ◌∷◌, length, map, refl, sym, ◌∙◌, ap, subst, arith, ℤ, pos, ◌+ℤ◌, ◌≤ℤ◌}
+use Rattle.std.proofs.Common.{◌≡◌, ℕ, ◌<◌, List, [], ◌∷◌, length, refl, sym, ◌∙◌, ap, subst, arith, ℤ, pos, ◌+ℤ◌, ◌≤ℤ◌}
 use Rattle.std.specs.List.{AllByRecursion}
 use Rattle.std.proofs.lemmas.Int.{ints}
 use Rattle.std.proofs.lemmas.List.{length-map}
@@ -10,19 +10,18 @@ use Rattle.sf_algebra.specs.MatrixOperations.{row_at, row_combination}
 use Rattle.sf_algebra.specs.Monomials.{Monomial, exponent_sum}
 use Rattle.sf_algebra.specs.Multiples.{place_product}
 use Rattle.sf_algebra.specs.Terms.{Term}
-use Rattle.sf_algebra.specs.Vectors.{Place, Vector, place_cmp, generator_degree, IsHomogeneous, IsTermOfDegree}
+use Rattle.sf_algebra.specs.Vectors.{Place, Vector, generator_degree, IsHomogeneous, IsTermOfDegree}
 use Rattle.sf_algebra.proofs.Degrees.{HasHomogeneousRows, IsHomogeneous-row_at, IsHomogeneous-row_combination}
 use Rattle.sf_algebra.proofs.DegreeParts.{IsHomogeneous-degree_part, row_combination-degree_part}
 use Rattle.sf_algebra.proofs.Filters.{AllByRecursion-filter_keeps}
 use Rattle.sf_algebra.proofs.HomogeneousVectors.{HasHomogeneousRows-from_IsMatrix}
-use Rattle.sf_algebra.proofs.Normal.{EachPlace}
 use Rattle.sf_algebra.proofs.Products.{exponent_sum-product}
 use Rattle.sf_groebner.specs.Criterion.{HasImageBelow, HaveLeadsAtOnePosition, IsMonicRow, ReducesToZero, image, lcm_place, lead_at, lead_place, pair_place, pair_terms, place_degree}
 use Rattle.sf_groebner.specs.ReducedBases.{HasDividedLead, IsMonic}
 use Rattle.sf_groebner.specs.Spans.{IsCoefficients}
 use Rattle.sf_groebner.proofs.Buchberger.{buchberger_at}
 use Rattle.sf_groebner.proofs.Items.{AllByRecursion-both}
-use Rattle.sf_groebner.proofs.Images.{IsSettled, IsUnder}
+use Rattle.sf_groebner.proofs.Images.{IsSettled}
 use Rattle.sf_groebner.proofs.Kernels.{IsZero, settled-reduces}
 use Rattle.sf_groebner.proofs.MonicRows.{IsMonicRow-row_at}
 use Rattle.sf_groebner.proofs.Pairs.{cofactor, image-pair_place, lcm_place-comm, place_product-pair_place_first, same_lead_position}
@@ -79,14 +78,19 @@ module _ (m : Matrix) (is_matrix : IsMatrix m) (monic : AllByRecursion (IsMonicR
 
         pair_homogeneous : IsHomogeneous m.target f (row_combination m.modulus m.rows (pair_terms m.modulus (lead_at m.rows) i j))
         pair_homogeneous =
-            IsHomogeneous-row_combination m.target m.modulus m.rows rows_homogeneous f (pair_terms m.modulus (lead_at m.rows) i j)
-            ((within i i_in, of_pair),
-            ((within j j_in,
-            of_pair
-            ∙ place_degree-pair_place i j i_in
-            ∙ ap (place_degree m.target) (lcm_place-comm (lead_at m.rows) i j positions)
-            ∙ sym (place_degree-pair_place j i j_in)),
-            tt))
+            IsHomogeneous-row_combination m.target m.modulus m.rows rows_homogeneous f (pair_terms m.modulus (lead_at m.rows) i j) (
+              (within i i_in, of_pair),
+              (
+                (
+                  within j j_in,
+                  of_pair
+                      ∙ place_degree-pair_place i j i_in
+                      ∙ ap (place_degree m.target) (lcm_place-comm (lead_at m.rows) i j positions)
+                      ∙ sym (place_degree-pair_place j i j_in),
+                ),
+                tt,
+              ),
+            )
 
     -- the criterion up to degree d
     pub buchberger_up_to : (d : ℤ)

@@ -1,12 +1,12 @@
 -- Buchberger's criterion: where the pairs of monic rows reduce to zero, each combination of the rows has a lead that the lead of
 -- a row divides. (Cox, Little, O'Shea, "Using Algebraic Geometry", chapter 5, section 2.)
-use Rattle.std.proofs.Common.{◌≡◌, ◌⊎◌, ⊎_elim, ℕ, ◌<◌, List, [], ◌∷◌, length, refl, sym, ◌∙◌, ap, subst}
+use Rattle.std.proofs.Common.{◌≡◌, ⊎_elim, ℕ, ◌<◌, List, [], length, sym, ◌∙◌, subst}
 use Rattle.std.specs.List.{AllByRecursion}
 use Rattle.sf_algebra.specs.Divisibility.{quotient}
-use Rattle.sf_algebra.specs.MatrixOperations.{row_at, row_combination}
+use Rattle.sf_algebra.specs.MatrixOperations.{row_combination}
 use Rattle.sf_algebra.specs.Multiples.{place_product}
 use Rattle.sf_algebra.specs.Terms.{Term}
-use Rattle.sf_algebra.specs.Vectors.{Place, Vector, place_cmp}
+use Rattle.sf_algebra.specs.Vectors.{Place, Vector}
 use Rattle.sf_algebra.proofs.Normal.{EachPlace}
 use Rattle.sf_groebner.specs.Criterion.{HaveLeadsAtOnePosition, IsForRows, IsMonicRow, ReducesToZero, image, lcm_place, lead_at, pair_place}
 use Rattle.sf_groebner.specs.Leads.{PlaceDivides}
@@ -14,7 +14,7 @@ use Rattle.sf_groebner.specs.ReducedBases.{HasDividedLead}
 use Rattle.sf_groebner.proofs.Images.{IsSettled, IsUnder}
 use Rattle.sf_groebner.proofs.Kernels.{IsZero, IsZero-module, reduces-settled, settled-reduces}
 use Rattle.sf_groebner.proofs.MonicRows.{HasDividedLead-Begins, lead_bound, monic_leads}
-use Rattle.sf_groebner.proofs.Pairs.{cofactor, image-pair_place, lcm_place-comm, same_lead_position, settled_pair, settled_pairs}
+use Rattle.sf_groebner.proofs.Pairs.{IsSettled-chain, IsSettled-turn, cofactor, image-pair_place, lcm_place-comm, same_lead_position, settled_pair, settled_pairs}
 use Rattle.sf_groebner.proofs.PlaceDivisors.{place_product-quotient}
 use Rattle.sf_groebner.proofs.Settled.{IsSettled-sym, IsSettled-trans}
 use Rattle.sf_groebner.proofs.Standard.{standard}
@@ -41,42 +41,21 @@ module _ (p : ℕ) (positive : 0 < p) (rows : List Vector) where
   pub ReducesToZero-sym : (i j : ℕ) → HaveLeadsAtOnePosition rows i j → ReducesToZero p rows i j → ReducesToZero p rows j i
   ReducesToZero-sym i j positions h =
       ReducesToZero-IsSettled j i (sym positions)
-      (IsSettled-sym p (IsZero p positive rows) (IsZero-module p positive rows) (IsInside rows) (lead_at rows) positive (pair_place (lead_at rows) i j) (pair_place (lead_at rows) j i)
-      (image-pair_place (lead_at rows) i j ∙ lcm_place-comm (lead_at rows) i j positions ∙ sym (image-pair_place (lead_at rows) j i))
-      (IsSettled-ReducesToZero i j positions h))
+      (IsSettled-turn p positive (IsZero p positive rows) (IsZero-module p positive rows) (IsInside rows) (lead_at rows) i j positions (IsSettled-ReducesToZero i j positions h))
 
   -- the chain criterion: a pair reduces to zero where the lead of a row divides its least common multiple, and the pairs with that row do
   pub ReducesToZero-chain : (i j k : ℕ) → HaveLeadsAtOnePosition rows i k → PlaceDivides (lead_at rows j) (lcm_place (lead_at rows) i k)
       → ReducesToZero p rows i j → ReducesToZero p rows j k → ReducesToZero p rows i k
   ReducesToZero-chain i j k positions divides first second =
       ReducesToZero-IsSettled i k positions
-      (IsSettled-trans p (IsZero p positive rows) (IsZero-module p positive rows) (IsInside rows) (lead_at rows) start middle end (image_middle ∙ sym image_end)
-      (settled_pair p (IsZero p positive rows) (IsZero-module p positive rows) (IsInside rows) (lead_at rows) start middle (image_start ∙ sym image_middle) (IsSettled-ReducesToZero i j (sym divides.0) first))
-      (settled_pair p (IsZero p positive rows) (IsZero-module p positive rows) (IsInside rows) (lead_at rows) middle end (image_middle ∙ sym image_end) (IsSettled-ReducesToZero j k (divides.0 ∙ positions) second)))
-    where
-      start : Place
-      start = pair_place (lead_at rows) i k
-
-      end : Place
-      end = pair_place (lead_at rows) k i
-
-      middle : Place
-      middle = record { position = j; monomial = quotient (lcm_place (lead_at rows) i k).monomial (lead_at rows j).monomial }
-
-      image_start : image (lead_at rows) start ≡ lcm_place (lead_at rows) i k
-      image_start = image-pair_place (lead_at rows) i k
-
-      image_middle : image (lead_at rows) middle ≡ lcm_place (lead_at rows) i k
-      image_middle = place_product-quotient (lead_at rows j) (lcm_place (lead_at rows) i k) divides
-
-      image_end : image (lead_at rows) end ≡ lcm_place (lead_at rows) i k
-      image_end = image-pair_place (lead_at rows) k i ∙ sym (lcm_place-comm (lead_at rows) i k positions)
+      (IsSettled-chain p (IsZero p positive rows) (IsZero-module p positive rows) (λ n. n < length rows) (lead_at rows) i j k positions divides
+      (IsSettled-ReducesToZero i j (sym divides.0) first) (IsSettled-ReducesToZero j k (divides.0 ∙ positions) second))
 
   module _ (monic : AllByRecursion (IsMonicRow p) rows) where
     -- the criterion for coefficients at the places in In
     pub buchberger_at : (In : Place → Type 0) → ((k : Place) → In k → k.position < length rows)
         → ((j k : Place) → In j → In k → image (lead_at rows) j ≡ image (lead_at rows) k → j.position < k.position
-          → IsSettled p (λ u. In (place_product (cofactor (lead_at rows) j k) u)) (lead_at rows) (IsZero p positive rows) (pair_place (lead_at rows) j.position k.position) (pair_place (lead_at rows) k.position j.position))
+        → IsSettled p (λ u. In (place_product (cofactor (lead_at rows) j k) u)) (lead_at rows) (IsZero p positive rows) (pair_place (lead_at rows) j.position k.position) (pair_place (lead_at rows) k.position j.position))
         → (c : List (Term Place)) → EachPlace In c → HasDividedLead rows (row_combination p rows c)
     buchberger_at In inside pairs c h =
         ⊎_elim

@@ -1,6 +1,6 @@
 -- A list of rows that grows: pairs that reduce to zero still do, and a division of an S-vector whose rest is 0, or a new row's
 -- multiple, makes its pair reduce to zero.
-use Rattle.std.proofs.Common.{◌≡◌, ℕ, zero, ◌+◌, ◌<◌, List, [], ◌∷◌, ◌++◌, length, refl, sym, ◌∙◌, ap, subst, arith, length-append, zero-add, append-nil}
+use Rattle.std.proofs.Common.{◌≡◌, ℕ, ◌<◌, List, [], ◌∷◌, ◌++◌, length, sym, ◌∙◌, ap, subst, arith, length-append}
 use Rattle.std.specs.declared.cmp.Ordering.TheVariants.{Less}
 use Rattle.std.specs.List.{AllByRecursion}
 use Rattle.sf_algebra.specs.Divisibility.{quotient, lcm}
@@ -18,7 +18,7 @@ use Rattle.sf_algebra.proofs.Orders.{place_cmp_linear}
 use Rattle.sf_algebra.proofs.Places.{place_product-one}
 use Rattle.sf_algebra.proofs.Rows.{IsCanonical-row_combination, row_at-append_first, row_at-append_second, row_combination-append, row_combination-one}
 use Rattle.sf_algebra.proofs.Sums.{add-nil_first, add_comm}
-use Rattle.sf_groebner.specs.Criterion.{HasImageBelow, IsForRows, ReducesToZero, image, lcm_place, lead_at, lead_place, pair_place, pair_terms, s_vector}
+use Rattle.sf_groebner.specs.Criterion.{HasImageBelow, IsForRows, ReducesToZero, lcm_place, lead_at, lead_place, pair_terms, s_vector}
 use Rattle.sf_groebner.proofs.Multiplied.{constant_term}
 
 module _ (rows more : List Vector) where

@@ -1,23 +1,20 @@
 -- The combinations that are 0, as a set that settles pairs: a pair of rows is settled there exactly where it reduces to zero.
-use Rattle.std.proofs.Common.{◌≡◌, ℕ, ◌%◌, ◌<◌, List, [], ◌∷◌, ◌++◌, map, refl, sym, ◌∙◌, ap, subst, append-nil, append_assoc}
-use Rattle.std.specs.declared.cmp.Ordering.TheVariants.{Less}
-use Rattle.std.specs.List.{AllByRecursion}
+use Rattle.std.proofs.Common.{◌≡◌, ℕ, ◌<◌, List, [], ◌∷◌, ◌++◌, map, sym, ◌∙◌, ap, subst, append-nil, append_assoc}
 use Rattle.sf_algebra.specs.MatrixOperations.{row_at, row_combination}
 use Rattle.sf_algebra.specs.Multiples.{place_product, term_product, multiple}
 use Rattle.sf_algebra.specs.Monomials.{Monomial}
 use Rattle.sf_algebra.specs.Residues.{negative_mod}
-use Rattle.sf_algebra.specs.Sums.{normal, add}
+use Rattle.sf_algebra.specs.Sums.{add}
 use Rattle.sf_algebra.specs.Terms.{Term}
 use Rattle.sf_algebra.specs.Vectors.{Place, Vector, place_cmp}
 use Rattle.sf_algebra.proofs.Keys.{place_keys}
-use Rattle.sf_algebra.proofs.Lists.{AllByRecursion-weaken}
 use Rattle.sf_algebra.proofs.Negatives.{negative_one_term}
 use Rattle.sf_algebra.proofs.Normal.{EachPlace}
 use Rattle.sf_algebra.proofs.Orders.{place_cmp_linear}
 use Rattle.sf_algebra.proofs.Rows.{IsCanonical-row_combination, row_combination-append, row_combination-multiple, row_combination-nil}
 use Rattle.sf_algebra.proofs.SameTotals.{SameTotals, SameTotals-append, SameTotals-equal, SameTotals-negative, SameTotals-normal, SameTotals-refl, SameTotals-swap, SameTotals-sym, SameTotals-trans, combination-SameTotals}
-use Rattle.sf_algebra.proofs.Sums.{add-nil, add-nil_first, normal-nil}
-use Rattle.sf_groebner.specs.Criterion.{image, lcm_place, pair_place, pair_terms}
+use Rattle.sf_algebra.proofs.Sums.{add-nil, normal-nil}
+use Rattle.sf_groebner.specs.Criterion.{lcm_place, pair_place, pair_terms}
 use Rattle.sf_groebner.proofs.Images.{IsModule, IsSettled, IsUnder, at_place}
 use Rattle.sf_groebner.proofs.Multiplied.{SameTotals-constant}
 use Rattle.sf_groebner.proofs.Pairs.{image-pair_place, lcm_place-comm}

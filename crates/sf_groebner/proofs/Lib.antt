@@ -35,3 +35,7 @@ pub mod Remainders
 pub mod Lifts
 pub mod GraphLifts
 pub mod Relations
+pub mod Representations
+pub mod SyzygySpans
+pub mod PendingPairs
+pub mod HandledPairs

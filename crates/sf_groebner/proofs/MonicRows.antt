@@ -1,14 +1,13 @@
 -- Lists of monic rows: their leads, and what begins at an image has a lead that one of theirs divides.
-use Rattle.std.proofs.Common.{◌≡◌, ℕ, zero, suc, ◌+◌, ◌<◌, ◌≤◌, List, [], ◌∷◌, ◌++◌, length, Bool, true, false, ◌||◌, max, IsTrue, refl, sym, ◌∙◌, ap, subst, arith}
+use Rattle.std.proofs.Common.{◌≡◌, ℕ, zero, suc, ◌<◌, List, [], ◌∷◌, length, Bool, true, false, ◌||◌, max, IsTrue, refl, sym, ap, subst, arith}
 use Rattle.std.specs.declared.cmp.Ordering.TheVariants.{Less}
 use Rattle.std.specs.List.{AllByRecursion}
-use Rattle.sf_algebra.specs.MatrixOperations.{row_at, row_combination}
+use Rattle.sf_algebra.specs.MatrixOperations.{row_at}
 use Rattle.sf_algebra.specs.Monomials.{Monomial}
 use Rattle.sf_algebra.specs.Multiples.{place_product}
 use Rattle.sf_algebra.specs.Terms.{Term, IsCanonical}
 use Rattle.sf_algebra.specs.Vectors.{Place, Vector, place_cmp}
 use Rattle.sf_groebner.specs.Criterion.{IsMonicRow, image, lead_at, lead_place}
-use Rattle.sf_groebner.specs.Leads.{place_divides}
 use Rattle.sf_groebner.specs.ReducedBases.{HasDividedLead, IsMonic, is_divided, lead_divides}
 use Rattle.sf_groebner.proofs.Images.{HasLeads}
 use Rattle.sf_groebner.proofs.PlaceDivisors.{Decides-place_divides, PlaceDivides-place_product}

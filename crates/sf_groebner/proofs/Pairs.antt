@@ -1,7 +1,7 @@
 -- Pairs of rows: where they are settled at the least common multiples of their leads, all pairs of places with one image are.
-use Rattle.std.proofs.Common.{◌≡◌, ◌⊎◌, inl, inr, ℕ, ◌+◌, ◌-◌, ◌<◌, ◌≤◌, List, max, refl, sym, ◌∙◌, ap, subst, arith}
+use Rattle.std.proofs.Common.{◌≡◌, inl, inr, ℕ, ◌<◌, List, sym, ◌∙◌, ap, subst, arith}
 use Rattle.std.proofs.lemmas.Bool.{cases_lt}
-use Rattle.sf_algebra.specs.Divisibility.{Divides, quotient, lcm}
+use Rattle.sf_algebra.specs.Divisibility.{quotient, lcm}
 use Rattle.sf_algebra.specs.Monomials.{Monomial, product}
 use Rattle.sf_algebra.specs.Multiples.{place_product}
 use Rattle.sf_algebra.specs.Terms.{Term}
@@ -9,8 +9,10 @@ use Rattle.sf_algebra.specs.Vectors.{Place}
 use Rattle.sf_algebra.proofs.Divisors.{product-cancel, same_exponents, same_monomial}
 use Rattle.sf_algebra.proofs.Products.{product-comm}
 use Rattle.sf_groebner.specs.Criterion.{image, lcm_place, pair_place}
+use Rattle.sf_groebner.specs.Leads.{PlaceDivides}
 use Rattle.sf_groebner.proofs.Images.{IsAllSettled, IsModule, IsSettled}
-use Rattle.sf_groebner.proofs.Settled.{IsSettled-equal, IsSettled-product, IsSettled-sym}
+use Rattle.sf_groebner.proofs.PlaceDivisors.{place_product-quotient}
+use Rattle.sf_groebner.proofs.Settled.{IsSettled-equal, IsSettled-product, IsSettled-sym, IsSettled-trans}
 
 -- the monomial by which the image of j and k is a multiple of the least common multiple of the leads of their rows
 abbrev pub cofactor : (ℕ → Place) → Place → Place → Monomial
@@ -77,7 +79,7 @@ module _ (p : ℕ) (S : List (Term Place) → Type 0) (is_module : IsModule p S)
   -- all pairs of places, by the pairs of an earlier and a later row
   pub settled_pairs : 0 < p
       → ((j k : Place) → In j → In k → image lead j ≡ image lead k → j.position < k.position
-        → IsSettled p (λ u. In (place_product (cofactor lead j k) u)) lead S (pair_place lead j.position k.position) (pair_place lead k.position j.position))
+      → IsSettled p (λ u. In (place_product (cofactor lead j k) u)) lead S (pair_place lead j.position k.position) (pair_place lead k.position j.position))
       → IsAllSettled p In lead S
   settled_pairs positive pairs j k j_in k_in e =
       elim (cases_lt j.position k.position) [
@@ -87,3 +89,35 @@ module _ (p : ℕ) (S : List (Term Place) → Type 0) (is_module : IsModule p S)
           | inr not_later ↦ IsSettled-equal p S is_module In lead j k (image-one_row lead j k e (omega arith))
         ]
       ]
+
+-- the chain criterion: a pair is settled where the lead of a row divides its least common multiple, and its pairs with that row are settled
+pub IsSettled-chain : (p : ℕ) (S : List (Term Place) → Type 0) → IsModule p S → (In : ℕ → Type 0) (lead : ℕ → Place) (i j k : ℕ)
+    → (lead i).position ≡ (lead k).position → PlaceDivides (lead j) (lcm_place lead i k)
+    → IsSettled p (λ u. In u.position) lead S (pair_place lead i j) (pair_place lead j i) → IsSettled p (λ u. In u.position) lead S (pair_place lead j k) (pair_place lead k j)
+    → IsSettled p (λ u. In u.position) lead S (pair_place lead i k) (pair_place lead k i)
+IsSettled-chain p S is_module In lead i j k positions divides first second =
+    IsSettled-trans p S is_module (λ u. In u.position) lead start middle end (image_middle ∙ sym image_end)
+    (settled_pair p S is_module (λ u. In u.position) lead start middle (image-pair_place lead i k ∙ sym image_middle) first)
+    (settled_pair p S is_module (λ u. In u.position) lead middle end (image_middle ∙ sym image_end) second)
+  where
+    start : Place
+    start = pair_place lead i k
+
+    end : Place
+    end = pair_place lead k i
+
+    middle : Place
+    middle = record { position = j; monomial = quotient (lcm_place lead i k).monomial (lead j).monomial }
+
+    image_middle : image lead middle ≡ lcm_place lead i k
+    image_middle = place_product-quotient (lead j) (lcm_place lead i k) divides
+
+    image_end : image lead end ≡ lcm_place lead i k
+    image_end = image-pair_place lead k i ∙ sym (lcm_place-comm lead i k positions)
+
+-- either order of the pair of two rows
+pub IsSettled-turn : (p : ℕ) → 0 < p → (S : List (Term Place) → Type 0) → IsModule p S → (In : Place → Type 0) (lead : ℕ → Place) (i j : ℕ) → (lead i).position ≡ (lead j).position
+    → IsSettled p In lead S (pair_place lead i j) (pair_place lead j i) → IsSettled p In lead S (pair_place lead j i) (pair_place lead i j)
+IsSettled-turn p positive S is_module In lead i j positions h =
+    IsSettled-sym p S is_module In lead positive (pair_place lead i j) (pair_place lead j i)
+    (image-pair_place lead i j ∙ lcm_place-comm lead i j positions ∙ sym (image-pair_place lead j i)) h

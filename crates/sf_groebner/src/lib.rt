@@ -8,8 +8,9 @@ mod bases;
 mod graph;
 mod lift;
 mod stack;
-
 pub use bases::reduced_bases_are_unique;
 pub use graph::graph_parts;
 pub use lift::lifts_are_unique;
 pub use stack::stack_parts;
+mod criterion;
+pub use criterion::{pairs_decide_bases, pairs_give_syzygies};

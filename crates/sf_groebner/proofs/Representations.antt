@@ -1,0 +1,155 @@
+-- Where each combination of monic rows has a lead that the lead of a row divides, each is a combination whose images are less than
+-- what its places are less than; so the pairs of the rows reduce to zero.
+use Rattle.std.proofs.Common.{◌≡◌, ◌≢◌, ◌⊎◌, inl, inr, ℕ, suc, ◌<◌, List, [], ◌∷◌, ◌++◌, length, if◌then◌else◌, Bool, true, false, ◌||◌, IsTrue, refl, sym, ◌∙◌, ap, subst, arith, append_assoc, append-nil}
+use Rattle.std.proofs.lemmas.Cmp.{tied_itself}
+use Rattle.std.specs.declared.cmp.Ordering.{Ordering}
+use Rattle.std.specs.declared.cmp.Ordering.TheVariants.{Less, Equal, Greater}
+use Rattle.std.specs.List.{AllByRecursion}
+use Rattle.std.specs.Ordering.{is_eq}
+use Rattle.sf_algebra.specs.Divisibility.{quotient}
+use Rattle.sf_algebra.specs.MatrixOperations.{row_combination}
+use Rattle.sf_algebra.specs.Multiples.{place_product, term_product}
+use Rattle.sf_algebra.specs.Residues.{sum_mod, product_mod, negative_mod}
+use Rattle.sf_algebra.specs.Sums.{add, coefficient_at}
+use Rattle.sf_algebra.specs.Terms.{Term, IsCanonical}
+use Rattle.sf_algebra.specs.Vectors.{Place, Vector, place_cmp}
+use Rattle.sf_algebra.proofs.Coefficients.{coefficient_at-head}
+use Rattle.sf_algebra.proofs.GroupLaws.{coefficient_at-add}
+use Rattle.sf_algebra.proofs.Keys.{place_keys}
+use Rattle.sf_algebra.proofs.Lists.{AllByRecursion-append, AllByRecursion-weaken}
+use Rattle.sf_algebra.proofs.Negatives.{negative_one_term}
+use Rattle.sf_algebra.proofs.Normal.{EachPlace, EachPlace-add, IsAboveEach}
+use Rattle.sf_algebra.proofs.Orders.{place_cmp_linear, place_cmp_total}
+use Rattle.sf_algebra.proofs.Places.{place_product-one}
+use Rattle.sf_algebra.proofs.Residues.{product_mod-reduced, sum_mod-zero}
+use Rattle.sf_algebra.proofs.Rows.{IsCanonical-row_combination, row_combination-append, row_combination-nil}
+use Rattle.sf_algebra.proofs.SameTotals.{SameTotals, SameTotals-append, SameTotals-equal, SameTotals-negative, SameTotals-refl, SameTotals-swap, SameTotals-trans, sum_mod-negative_one}
+use Rattle.sf_algebra.proofs.Totals.{total-cons, total-nil}
+use Rattle.sf_groebner.specs.Criterion.{HasImageBelow, HaveLeadsAtOnePosition, IsForRows, IsMonicRow, ReducesToZero, image, lcm_place, lead_at, lead_place, pair_terms}
+use Rattle.sf_groebner.specs.Leads.{PlaceDivides}
+use Rattle.sf_groebner.specs.ReducedBases.{HasDividedLead, is_divided, lead_divides}
+use Rattle.sf_groebner.proofs.Accessible.{IsBelow}
+use Rattle.sf_groebner.proofs.Buchberger.{IsInside}
+use Rattle.sf_groebner.proofs.Images.{IsAtMost, top_part}
+use Rattle.sf_groebner.proofs.Kernels.{row_combination-SameTotals}
+use Rattle.sf_groebner.proofs.MonicRows.{lead_bound, lead_bound-row, monic_leads}
+use Rattle.sf_groebner.proofs.PlaceDivisors.{Decides-place_divides, place_product-quotient}
+use Rattle.sf_groebner.proofs.Standard.{place_induction}
+use Rattle.sf_groebner.proofs.SVectors.{below_at, s_vector-below}
+use Rattle.sf_groebner.proofs.TopCoefficients.{coefficient_at-top, row_combination-at_most}
+
+-- a row whose lead divides b
+pub row-is_divided : (rows : List Vector) (b : Place) → IsTrue (is_divided rows b) → (i : ℕ) × (i < length rows) × PlaceDivides (lead_at rows i) b
+row-is_divided [] b h = cc
+row-is_divided (v ∷ vs) b h =
+    elim (or_cases (lead_divides v.terms b) (is_divided vs b) h) [
+      | inl here ↦ (0, omega arith, of_row v.terms here)
+      | inr there ↦ let found = row-is_divided vs b there in (suc found.0, omega arith, found.2)
+    ]
+  where
+    or_cases : (c d : Bool) → (c || d) ≡ true → (c ≡ true) ⊎ (d ≡ true)
+    or_cases true d e = inl refl
+    or_cases false d e = inr e
+
+    of_row : (ts : List (Term Place)) → IsTrue (lead_divides ts b) → PlaceDivides (lead_place ts) b
+    of_row [] e = cc
+    of_row (t ∷ ts) e = (Decides-place_divides t.at b).0 e
+
+-- c is a combination whose images are less than b
+pub record IsRepresented (p : ℕ) (rows : List Vector) (b : Place) (c : List (Term Place)) : Type 0 where
+  pub steps : List (Term Place)
+  pub below : AllByRecursion (HasImageBelow rows b) steps
+  pub value : row_combination p rows steps ≡ row_combination p rows c
+
+not_greater : (o : Ordering) → o ≡ Less → o ≢ Greater
+not_greater o less greater = cc
+
+not_greater_equal : (o : Ordering) → o ≡ Equal → o ≢ Greater
+not_greater_equal o equal greater = cc
+
+module _ (p : ℕ) (positive : 0 < p) (rows : List Vector) (monic : AllByRecursion (IsMonicRow p) rows) where
+  -- the coefficients that cancel the lead t of a combination, where the lead of row i divides it
+  module _ (t : Term Place) (i : ℕ) (within : i < length rows) (divides : PlaceDivides (lead_at rows i) t.at) where
+    abbrev step : Term Place
+    step = record { at = record { position = i; monomial = quotient t.at.monomial (lead_at rows i).monomial }; coefficient = t.coefficient }
+
+    abbrev opposite : Term Place
+    opposite = term_product place_product p (negative_one_term p) step
+
+    image_step : image (lead_at rows) step.at ≡ t.at
+    image_step = place_product-quotient (lead_at rows i) t.at divides
+
+    image_opposite : place_cmp (image (lead_at rows) opposite.at) t.at ≡ Equal
+    image_opposite = ap (λ k. place_cmp (image (lead_at rows) k) t.at) (place_product-one step.at) ∙ ap (λ k. place_cmp k t.at) image_step ∙ tied_itself place_cmp_total t.at
+
+    opposite_most : EachPlace (IsAtMost (IsInside rows) (lead_at rows) t.at) (opposite ∷ [])
+    opposite_most = ((within, not_greater_equal _ image_opposite), tt)
+
+    coefficient_at-opposite : coefficient_at place_cmp p t.at (row_combination p rows (opposite ∷ [])) ≡ product_mod p (negative_mod p 1) t.coefficient
+    coefficient_at-opposite =
+        let top = top_part (lead_at rows) t.at in
+        coefficient_at-top p (lead_bound rows) (IsInside rows) rows (lead_at rows) (monic_leads p rows monic (IsInside rows) (λ k h. h)) t.at (opposite ∷ []) opposite_most
+        ∙ total-cons p top opposite []
+        ∙ (λ k. sum_mod p (if is_eq (image_opposite k) then product_mod p (negative_mod p 1) t.coefficient else 0) (total-nil p top k))
+        ∙ sum_mod-zero p (product_mod p (negative_mod p 1) t.coefficient)
+        ∙ product_mod-reduced p (negative_mod p 1) t.coefficient
+
+    -- the lead is gone
+    cancelled : (c ts : List (Term Place)) → row_combination p rows c ≡ t ∷ ts → IsAboveEach place_cmp t.at (row_combination p rows (c ++ opposite ∷ []))
+    cancelled c ts e =
+        let canonical : IsCanonical place_cmp p (t ∷ ts) = subst (IsCanonical place_cmp p) e (IsCanonical-row_combination p positive rows c) in
+        let value = row_combination-append p positive rows c (opposite ∷ []) in
+        below_at p t.at (row_combination p rows (c ++ opposite ∷ [])) (IsCanonical-row_combination p positive rows (c ++ opposite ∷ []))
+        (subst (EachPlace (λ k. place_cmp k t.at ≢ Greater)) (sym value)
+        (EachPlace-add (λ k. place_cmp k t.at ≢ Greater) place_cmp p (row_combination p rows c) (row_combination p rows (opposite ∷ []))
+        (subst (EachPlace (λ k. place_cmp k t.at ≢ Greater)) (sym e) (not_greater_equal _ (tied_itself place_cmp_total t.at), AllByRecursion-weaken _ _ (λ u less. not_greater _ less) ts canonical.descending.0))
+        (row_combination-at_most p (lead_bound rows) (IsInside rows) rows (lead_at rows) (monic_leads p rows monic (IsInside rows) (λ k h. h)) t.at (opposite ∷ []) opposite_most)))
+        (ap (coefficient_at place_cmp p t.at) value
+        ∙ coefficient_at-add place_keys p t.at (row_combination p rows c) (row_combination p rows (opposite ∷ []))
+        ∙ (λ k. sum_mod p ((ap (coefficient_at place_cmp p t.at) e ∙ coefficient_at-head place_cmp place_cmp_linear p t ts canonical) k) (coefficient_at-opposite k))
+        ∙ sum_mod-negative_one p t.coefficient positive)
+
+    -- with the step it is back
+    SameTotals-step : (c : List (Term Place)) → SameTotals p ((c ++ opposite ∷ []) ++ step ∷ []) c
+    SameTotals-step c =
+        SameTotals-trans p (SameTotals-equal p _ _ (append_assoc c (opposite ∷ []) (step ∷ [])))
+        (SameTotals-trans p
+        (SameTotals-append p (SameTotals-refl p c) (SameTotals-trans p (SameTotals-swap p (opposite ∷ []) (step ∷ [])) (SameTotals-negative place_keys p positive (step ∷ []))))
+        (SameTotals-equal p _ _ (append-nil c)))
+
+    one_step : (b : Place) (c ts : List (Term Place)) → row_combination p rows c ≡ t ∷ ts → place_cmp t.at b ≡ Less → IsRepresented p rows t.at (c ++ opposite ∷ []) → IsRepresented p rows b c
+    one_step b c ts e less h = record {
+      steps = h.steps ++ step ∷ [];
+      below = AllByRecursion-append _ h.steps (step ∷ [])
+          (AllByRecursion-weaken _ _ (λ u below. (below.0, place_cmp_total.trans (image (lead_at rows) u.at) t.at b below.1 less)) h.steps h.below)
+          ((within, ap (λ k. place_cmp k b) image_step ∙ less), tt);
+      value = row_combination-append p positive rows h.steps (step ∷ [])
+          ∙ ap (λ us. add place_cmp p us (row_combination p rows (step ∷ []))) h.value
+          ∙ sym (row_combination-append p positive rows (c ++ opposite ∷ []) (step ∷ []))
+          ∙ row_combination-SameTotals p positive rows (SameTotals-step c);
+    }
+
+  module _ (complete : (c : List (Term Place)) → AllByRecursion (IsForRows rows) c → HasDividedLead rows (row_combination p rows c)) where
+    abbrev RepresentsBelow : Place → Type 0
+    RepresentsBelow b = (c : List (Term Place)) → AllByRecursion (IsForRows rows) c → IsAboveEach place_cmp b (row_combination p rows c) → IsRepresented p rows b c
+
+    represent_step : (b : Place) → ((j : Place) → IsBelow (lead_bound rows) j b → RepresentsBelow j) → RepresentsBelow b
+    represent_step b before c for_rows below = by_value (row_combination p rows c) refl below (complete c for_rows)
+      where
+        by_value : (v : List (Term Place)) → row_combination p rows c ≡ v → IsAboveEach place_cmp b v → HasDividedLead rows v → IsRepresented p rows b c
+        by_value [] e less divided = record { steps = []; below = tt; value = row_combination-nil p positive rows ∙ sym e }
+        by_value (t ∷ ts) e less divided =
+            let found = row-is_divided rows t.at divided in
+            one_step t found.0 found.1 found.2 b c ts e less.0
+            (before t.at (less.0, subst (λ n. n < lead_bound rows) found.2.0 (lead_bound-row rows found.0 found.1)) (c ++ opposite t found.0 found.1 found.2 ∷ [])
+            (AllByRecursion-append _ c _ for_rows (found.1, tt))
+            (cancelled t found.0 found.1 found.2 c ts e))
+
+    pub represented : (b : Place) (c : List (Term Place)) → AllByRecursion (IsForRows rows) c → IsAboveEach place_cmp b (row_combination p rows c) → IsRepresented p rows b c
+    represented b = place_induction (lead_bound rows) RepresentsBelow represent_step b
+
+    -- the pairs reduce to zero
+    pub ReducesToZero-complete : (i j : ℕ) → i < length rows → j < length rows → HaveLeadsAtOnePosition rows i j → ReducesToZero p rows i j
+    ReducesToZero-complete i j i_in j_in positions =
+        let h = represented (lcm_place (lead_at rows) i j) (pair_terms p (lead_at rows) i j) (i_in, (j_in, tt)) (s_vector-below p positive rows monic i j i_in j_in positions) in
+        record { steps = h.steps; below = h.below; value = h.value }

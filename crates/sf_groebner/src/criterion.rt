@@ -1,0 +1,15 @@
+ghost use Rattle.sf_groebner.specs.CriterionLaws.{CancelsLeads, DropsChains, IsBuchbergersCriterion, IsCriterionUpToDegree, SpansSyzygies, TakesEitherOrder};
+
+/// Monic rows are a Gröbner basis of what they span exactly where the S-vectors of their pairs reduce to zero.
+pub fn pairs_decide_bases()
+    ensures criterion { IsBuchbergersCriterion }
+    ensures up_to_degree { IsCriterionUpToDegree }
+    ensures leads { CancelsLeads }
+    ensures either_order { TakesEitherOrder }
+    ensures chains { DropsChains }
+{}
+
+/// The syzygies that come from the pairs of monic rows span all syzygies of the rows.
+pub fn pairs_give_syzygies()
+    ensures span { SpansSyzygies }
+{}
