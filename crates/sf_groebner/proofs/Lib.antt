@@ -35,3 +35,7 @@ pub mod Remainders
 pub mod Lifts
 pub mod GraphLifts
 pub mod Relations
+pub mod MonicVectors
+pub mod Subtractions
+pub mod Divisions
+pub mod Submodules
