@@ -39,3 +39,4 @@ pub mod MonicVectors
 pub mod Subtractions
 pub mod Divisions
 pub mod Submodules
+pub mod HomogeneousPairs
