@@ -40,3 +40,5 @@ pub mod Subtractions
 pub mod Divisions
 pub mod Submodules
 pub mod HomogeneousPairs
+pub mod Generators
+pub mod Completions
