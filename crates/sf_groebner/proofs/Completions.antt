@@ -1,7 +1,7 @@
 -- Buchberger's algorithm as a proof: each finitely generated module has monic vectors whose leads divide each lead. Rests of
 -- generators and of S-vectors are taken in until there are none; Dickson's lemma ends this. (Cox, Little, O'Shea, "Using
 -- Algebraic Geometry", chapter 5, section 2.)
-use Rattle.std.proofs.Common.{◌≡◌, ◌⊎◌, inl, inr, ◌||◌, false, ℕ, zero, suc, ◌<◌, List, [], ◌∷◌, length, map, refl, sym, ◌∙◌, ap, subst, arith, ℤ}
+use Rattle.std.proofs.Common.{◌≡◌, ◌⊎◌, inl, inr, false, ℕ, zero, suc, ◌<◌, List, [], ◌∷◌, length, refl, sym, ◌∙◌, ap, subst, arith, ℤ}
 use Rattle.std.proofs.lemmas.Bool.{cases_eq, cases_lt}
 use Rattle.std.proofs.lemmas.List.{length-map}
 use Rattle.std.specs.List.{AllByRecursion, list_any}
@@ -18,11 +18,13 @@ use Rattle.sf_algebra.proofs.Rows.{IsCanonical-row_combination}
 use Rattle.sf_algebra.proofs.Sums.{add-nil_first}
 use Rattle.sf_groebner.specs.Criterion.{HaveLeadsAtOnePosition, ReducesToZero, lead_at, lead_place, s_vector, pair_terms}
 use Rattle.sf_groebner.specs.Leads.{place_divides}
-use Rattle.sf_groebner.specs.ReducedBases.{HasDividedLead, IsMonic, IsReducedBy, is_divided, lead_divides}
+use Rattle.sf_groebner.specs.ReducedBases.{HasDividedLead, IsMonic, IsReducedBy, is_divided}
+use Rattle.sf_groebner.proofs.Antichains.{IsGrown}
 use Rattle.sf_groebner.proofs.Buchberger.{buchberger}
 use Rattle.sf_groebner.proofs.Dickson.{AddsLead, leads_acc}
 use Rattle.sf_groebner.proofs.Divisions.{Division, divide}
 use Rattle.sf_groebner.proofs.Generators.{AreGenerators, IsCombination, IsCombination-trans}
+use Rattle.sf_groebner.proofs.LeadDivisors.{is_divided-lead_places, lead_places}
 use Rattle.sf_groebner.proofs.MonicVectors.{IsMonicVector}
 use Rattle.sf_groebner.proofs.HomogeneousPairs.{ReducesToZero-division, pair_degree, pair_terms-homogeneous}
 use Rattle.sf_groebner.proofs.Submodules.{HasMonicAt, IsSubmodule, monic_multiple, rest-inside}
@@ -48,23 +50,6 @@ below_or P Q (suc n) f = elim (f n (omega arith)) [
     | inl others ↦ inl (λ i h. elim (cases_lt i n) [ inl less ↦ others i less | inr not_less ↦ let same : n ≡ i = omega arith in subst P same last ])
   ]
 ]
-
--- where the leads of rows stand
-abbrev pub lead_places : List Vector → List Place
-lead_places rows = map (λ (v : Vector). lead_place v.terms) rows
-
-pub lead_divides-lead_place : (ts : List (Term Place)) (k : Place) → IsMonic ts → lead_divides ts k ≡ place_divides (lead_place ts) k
-lead_divides-lead_place [] k h = absurd h
-lead_divides-lead_place (t ∷ ts) k h = refl
-
-pub is_divided-lead_places : (rows : List Vector) (k : Place) → AllByRecursion (λ (v : Vector). IsMonic v.terms) rows → is_divided rows k ≡ list_any (λ j. place_divides j k) (lead_places rows)
-is_divided-lead_places [] k h = refl
-is_divided-lead_places (v ∷ vs) k h = λ i. lead_divides-lead_place v.terms k h.0 i || is_divided-lead_places vs k h.1 i
-
--- no lead of the rows behind it divides the lead of a row
-abbrev pub IsGrown : List Vector → Type 0
-IsGrown [] = Unit {0}
-IsGrown (v ∷ vs) = (is_divided vs (lead_place v.terms) ≡ false) × IsGrown vs
 
 -- a vector of the module whose lead has the coefficient 1
 abbrev pub IsMonicIn : (Vector → Type 0) → Vector → Type 0

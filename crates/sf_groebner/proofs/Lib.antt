@@ -41,4 +41,7 @@ pub mod Divisions
 pub mod Submodules
 pub mod HomogeneousPairs
 pub mod Generators
+pub mod LeadDivisors
+pub mod Antichains
 pub mod Completions
+pub mod Tails
