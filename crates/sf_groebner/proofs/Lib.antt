@@ -39,3 +39,15 @@ pub mod Representations
 pub mod SyzygySpans
 pub mod PendingPairs
 pub mod HandledPairs
+pub mod MonicVectors
+pub mod Subtractions
+pub mod Divisions
+pub mod Submodules
+pub mod HomogeneousPairs
+pub mod Generators
+pub mod LeadDivisors
+pub mod Antichains
+pub mod Completions
+pub mod Tails
+pub mod SortedRows
+pub mod ReducedExistence

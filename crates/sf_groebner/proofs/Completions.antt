@@ -1,0 +1,158 @@
+-- Buchberger's algorithm as a proof: each finitely generated module has monic vectors whose leads divide each lead. Rests of
+-- generators and of S-vectors are taken in until there are none; Dickson's lemma ends this. (Cox, Little, O'Shea, "Using
+-- Algebraic Geometry", chapter 5, section 2.)
+use Rattle.std.proofs.Common.{◌≡◌, ◌⊎◌, inl, inr, false, ℕ, zero, suc, ◌<◌, List, [], ◌∷◌, length, refl, sym, ◌∙◌, ap, subst, arith, ℤ}
+use Rattle.std.proofs.lemmas.Bool.{cases_eq, cases_lt}
+use Rattle.std.proofs.lemmas.List.{length-map}
+use Rattle.std.specs.List.{AllByRecursion, list_any}
+use mathlib.Core.WellFounded.{Acc}
+use Rattle.sf_algebra.specs.MatrixOperations.{row_combination}
+use Rattle.sf_algebra.specs.Primes.{IsPrime}
+use Rattle.sf_algebra.specs.Sums.{add}
+use Rattle.sf_algebra.specs.Terms.{Term}
+use Rattle.sf_algebra.specs.Vectors.{Place, Vector, place_cmp, IsHomogeneous}
+use Rattle.sf_algebra.proofs.Degrees.{degrees_of}
+use Rattle.sf_algebra.proofs.Lists.{AllByRecursion-weaken}
+use Rattle.sf_algebra.proofs.Orders.{place_cmp_linear}
+use Rattle.sf_algebra.proofs.Rows.{IsCanonical-row_combination}
+use Rattle.sf_algebra.proofs.Sums.{add-nil_first}
+use Rattle.sf_groebner.specs.Criterion.{HaveLeadsAtOnePosition, ReducesToZero, lead_at, lead_place, s_vector, pair_terms}
+use Rattle.sf_groebner.specs.Leads.{place_divides}
+use Rattle.sf_groebner.specs.ReducedBases.{HasDividedLead, IsMonic, IsReducedBy, is_divided}
+use Rattle.sf_groebner.proofs.Antichains.{IsGrown}
+use Rattle.sf_groebner.proofs.Buchberger.{buchberger}
+use Rattle.sf_groebner.proofs.Dickson.{AddsLead, leads_acc}
+use Rattle.sf_groebner.proofs.Divisions.{Division, divide}
+use Rattle.sf_groebner.proofs.Generators.{AreGenerators, IsCombination, IsCombination-trans}
+use Rattle.sf_groebner.proofs.LeadDivisors.{is_divided-lead_places, lead_places}
+use Rattle.sf_groebner.proofs.MonicVectors.{IsMonicVector}
+use Rattle.sf_groebner.proofs.HomogeneousPairs.{ReducesToZero-division, pair_degree, pair_terms-homogeneous}
+use Rattle.sf_groebner.proofs.Submodules.{HasMonicAt, IsSubmodule, monic_multiple, rest-inside}
+
+-- a fact of each item, or one that an item gives
+each_or : {X : Type 0} (R P : X → Type 0) (Q : Type 0) → ((x : X) → R x → P x ⊎ Q) → (xs : List X) → AllByRecursion R xs → AllByRecursion P xs ⊎ Q
+each_or R P Q f [] h = inl tt
+each_or R P Q f (x ∷ xs) h = elim (f x h.0) [
+  | inr found ↦ inr found
+  | inl first ↦ elim (each_or R P Q f xs h.1) [
+    | inr found ↦ inr found
+    | inl others ↦ inl (first, others)
+  ]
+]
+
+-- a fact of each number below n, or one that such a number gives
+below_or : (P : ℕ → Type 0) (Q : Type 0) (n : ℕ) → ((i : ℕ) → i < n → P i ⊎ Q) → ((i : ℕ) → i < n → P i) ⊎ Q
+below_or P Q zero f = inl (λ i h. absurd (omega arith))
+below_or P Q (suc n) f = elim (f n (omega arith)) [
+  | inr found ↦ inr found
+  | inl last ↦ elim (below_or P Q n (λ i h. f i (omega arith))) [
+    | inr found ↦ inr found
+    | inl others ↦ inl (λ i h. elim (cases_lt i n) [ inl less ↦ others i less | inr not_less ↦ let same : n ≡ i = omega arith in subst P same last ])
+  ]
+]
+
+-- a vector of the module whose lead has the coefficient 1
+abbrev pub IsMonicIn : (Vector → Type 0) → Vector → Type 0
+IsMonicIn N v = N v × IsMonic v.terms
+
+-- monic vectors of the module whose leads divide each lead
+pub record Completion (N : Vector → Type 0) : Type 0 where
+  pub rows : List Vector
+  pub monic : AllByRecursion (IsMonicIn N) rows
+  pub grown : IsGrown rows
+  pub complete : (v : Vector) → N v → HasDividedLead rows v.terms
+
+module _ (p : ℕ) (prime : IsPrime p) (target : List ℤ) (N : Vector → Type 0) (submodule : IsSubmodule p target N) where
+  -- a lead of the module that no lead of the rows divides
+  abbrev HasNewLead : List Vector → Type 0
+  HasNewLead rows = (k : Place) × HasMonicAt N k × (is_divided rows k ≡ false)
+
+  pub monic_vectors : (rows : List Vector) → AllByRecursion (IsMonicIn N) rows → AllByRecursion (IsMonicVector p target) rows
+  monic_vectors rows h = AllByRecursion-weaken _ _ (λ v k. record { vector = submodule.module_like.vectors v k.0; monic = k.1 }) rows h
+
+  module _ (rows : List Vector) (monic : AllByRecursion (IsMonicIn N) rows) where
+    rest_or_new : (d : ℤ) (ts : List (Term Place)) → N (record { degree = d; terms = ts }) → IsReducedBy rows ts → (ts ≡ []) ⊎ HasNewLead rows
+    rest_or_new d [] h free = inl refl
+    rest_or_new d (t ∷ ts) h free = inr (t.at, monic_multiple p prime target N submodule d t ts h, free.0)
+
+    -- a vector of the module has a division without a rest, or gives a new lead
+    division_or_new : (v : Vector) → N v → ((e : Division p target rows v) × (e.rest ≡ [])) ⊎ HasNewLead rows
+    division_or_new v h =
+        let e = divide p prime target rows (monic_vectors rows monic) v (submodule.module_like.vectors v h) in
+        elim (rest_or_new v.degree e.rest (rest-inside p prime target N submodule rows (AllByRecursion-weaken _ _ (λ w k. k.0) rows monic) v h e) e.free) [
+          | inl none ↦ inl (e, none)
+          | inr found ↦ inr found
+        ]
+
+    -- it is a combination of the rows, or gives a new lead
+    combination_or_new : (v : Vector) → N v → IsCombination p rows v ⊎ HasNewLead rows
+    combination_or_new v h = elim (division_or_new v h) [
+      | inl found ↦ let e = found.0 in
+          inl (record {
+            coefficients = e.quotients;
+            homogeneous = e.homogeneous;
+            value =
+                sym (add-nil_first place_cmp place_cmp_linear p (omega (arith, prime.above_one)) (row_combination p rows e.quotients) (IsCanonical-row_combination p (omega (arith, prime.above_one)) rows e.quotients))
+                ∙ ap (λ ts. add place_cmp p ts (row_combination p rows e.quotients)) (sym found.1)
+                ∙ e.sum;
+          })
+      | inr found ↦ inr found
+    ]
+
+    -- a pair reduces to zero, or gives a new lead
+    pair_or_new : (i : ℕ) → i < length rows → (j : ℕ) → j < length rows → (HaveLeadsAtOnePosition rows i j → ReducesToZero p rows i j) ⊎ HasNewLead rows
+    pair_or_new i i_in j j_in =
+        elim (cases_eq (lead_at rows i).position (lead_at rows j).position) [
+          | inr apart ↦ inl (λ positions. absurd (apart positions))
+          | inl positions ↦
+              let vectors = monic_vectors rows monic in
+              let d : ℤ = pair_degree p prime target rows vectors i j i_in j_in positions in
+              let inside : N (record { degree = d; terms = s_vector p rows i j }) =
+              submodule.combinations rows (AllByRecursion-weaken _ _ (λ w k. k.0) rows monic) d (pair_terms p (lead_at rows) i j) (pair_terms-homogeneous p prime target rows vectors i j i_in j_in positions) in
+              elim (division_or_new (record { degree = d; terms = s_vector p rows i j }) inside) [
+                | inl found ↦ inl (λ same. ReducesToZero-division p prime target rows vectors i j i_in j_in positions found.0 found.1)
+                | inr found ↦ inr found
+              ]
+        ]
+
+    complete_or_new : (generators : List Vector) → AreGenerators p N generators → ((v : Vector) → N v → HasDividedLead rows v.terms) ⊎ HasNewLead rows
+    complete_or_new generators generate =
+        elim (each_or N (IsCombination p rows) (HasNewLead rows) combination_or_new generators generate.inside) [
+          | inr found ↦ inr found
+          | inl combinations ↦
+              elim (below_or (λ i. (j : ℕ) → j < length rows → HaveLeadsAtOnePosition rows i j → ReducesToZero p rows i j) (HasNewLead rows) (length rows)
+              (λ i i_in. below_or (λ j. HaveLeadsAtOnePosition rows i j → ReducesToZero p rows i j) (HasNewLead rows) (length rows) (pair_or_new i i_in))) [
+                | inr found ↦ inr found
+                | inl pairs ↦ inl (λ v h.
+                    let c = IsCombination-trans p rows (omega (arith, prime.above_one)) generators combinations v (generate.spans v h) in
+                    subst (HasDividedLead rows) c.value
+                    (buchberger p (omega (arith, prime.above_one)) rows (AllByRecursion-weaken _ _ (λ w k. record { canonical = (submodule.module_like.vectors w k.0).canonical; monic = k.1 }) rows monic)
+                    (λ i j before j_in positions. pairs i (omega arith) j j_in positions)
+                    c.coefficients
+                    (AllByRecursion-weaken _ _ (λ t k. within t k.0) c.coefficients c.homogeneous)))
+              ]
+        ]
+      where
+        within : (t : Term Place) → t.at.position < length (degrees_of rows) → t.at.position < length rows
+        within t h = simp length-map at h
+
+  module _ (generators : List Vector) (generate : AreGenerators p N generators) where
+    complete_from : (ks : List Place) → Acc (AddsLead (length target)) ks → (rows : List Vector) → AllByRecursion (IsMonicIn N) rows → IsGrown rows → lead_places rows ≡ ks → Completion N
+    complete_from ks (Acc.intro js h) rows monic grown leads =
+        elim (complete_or_new rows monic generators generate) [
+          | inl complete ↦ record { rows = rows; monic = monic; grown = grown; complete = complete }
+          | inr found ↦
+              let k : Place = found.0 in
+              let e = found.1 in
+              let first : lead_place e.vector.terms ≡ k = ap lead_place e.terms in
+              let column : k.position < length target = (subst (IsHomogeneous target e.vector.degree) e.terms (submodule.module_like.vectors e.vector e.inside).homogeneous).0.0 in
+              let none : list_any (λ j. place_divides j k) js ≡ false =
+              ap (list_any (λ j. place_divides j k)) (sym leads) ∙ sym (is_divided-lead_places rows k (AllByRecursion-weaken _ _ (λ w m. m.1) rows monic)) ∙ found.2 in
+              complete_from (k ∷ js) (h (k ∷ js) (k, refl, none, column)) (e.vector ∷ rows)
+              ((e.inside, subst IsMonic (sym e.terms) refl), monic)
+              (ap (is_divided rows) first ∙ found.2, grown)
+              (λ i. first i ∷ leads i)
+        ]
+
+    pub completion : Completion N
+    completion = complete_from [] (leads_acc (length target) []) [] tt tt refl

@@ -1,0 +1,103 @@
+-- Homogeneous rows whose leads have the coefficient 1, and their multiples that begin with a given term.
+use Rattle.std.proofs.Common.{◌≡◌, true, inl, inr, ℕ, zero, suc, ◌<◌, List, [], ◌∷◌, length, map, sym, ◌∙◌, ap, subst, arith, ◌+◌, ℤ, pos, ◌+ℤ◌}
+use Rattle.std.proofs.Math.Nat.{mod-eq_of_lt}
+use Rattle.std.proofs.lemmas.Bool.{or_cases}
+use Rattle.std.proofs.lemmas.Int.{ints}
+use Rattle.std.proofs.lemmas.List.{length-map}
+use Rattle.std.specs.List.{AllByRecursion}
+use Rattle.sf_algebra.specs.Divisibility.{quotient}
+use Rattle.sf_algebra.specs.MatrixOperations.{row_at, row_combination}
+use Rattle.sf_algebra.specs.Monomials.{exponent_sum}
+use Rattle.sf_algebra.specs.Multiples.{place_product, term_product}
+use Rattle.sf_algebra.specs.Primes.{IsPrime}
+use Rattle.sf_algebra.specs.Terms.{Term, IsNonzeroResidue}
+use Rattle.sf_algebra.specs.Vectors.{Place, Vector, generator_degree, term_degree, IsTermOfDegree, IsHomogeneous, IsVector}
+use Rattle.sf_algebra.proofs.Degrees.{degrees_of, HasHomogeneousRows}
+use Rattle.sf_algebra.proofs.Divisors.{product-quotient}
+use Rattle.sf_algebra.proofs.Keys.{place_keys}
+use Rattle.sf_algebra.proofs.Lists.{AllByRecursion-weaken}
+use Rattle.sf_algebra.proofs.PrimeMultiples.{multiple-map}
+use Rattle.sf_algebra.proofs.Products.{exponent_sum-product}
+use Rattle.sf_algebra.proofs.Residues.{product_mod-one}
+use Rattle.sf_algebra.proofs.Rows.{row_combination-one}
+use Rattle.sf_groebner.specs.Criterion.{lead_place, lead_at, image}
+use Rattle.sf_groebner.specs.Leads.{PlaceDivides}
+use Rattle.sf_groebner.specs.ReducedBases.{lead_divides, is_divided, IsMonic}
+use Rattle.sf_groebner.proofs.MonicRows.{IsMonic-shape, tail_of}
+use Rattle.sf_groebner.proofs.PlaceDivisors.{Decides-place_divides, place_product-quotient}
+
+-- a homogeneous vector whose lead has the coefficient 1
+pub record IsMonicVector (p : ℕ) (target : List ℤ) (v : Vector) : Type 0 where
+  pub vector : IsVector p target v
+  pub monic : IsMonic v.terms
+
+-- what holds of each row holds of that at a position
+pub AllByRecursion-row_at : (P : ℤ → List (Term Place) → Type 0) (rows : List Vector) → AllByRecursion (λ v. P v.degree v.terms) rows
+    → (i : ℕ) → i < length rows → P (generator_degree (degrees_of rows) i) (row_at rows i)
+AllByRecursion-row_at P [] h i within = absurd (omega arith)
+AllByRecursion-row_at P (v ∷ vs) h zero within = h.0
+AllByRecursion-row_at P (v ∷ vs) h (suc i) within = AllByRecursion-row_at P vs h.1 i (omega arith)
+
+-- a lead that divides a place
+pub lead_divides-place : (ts : List (Term Place)) (k : Place) → lead_divides ts k ≡ true → PlaceDivides (lead_place ts) k
+lead_divides-place [] k h = cc
+lead_divides-place (t ∷ ts) k h = (Decides-place_divides t.at k).0 h
+
+-- the position of a row whose lead divides a place
+pub is_divided-position : (rows : List Vector) (k : Place) → is_divided rows k ≡ true → (i : ℕ) × (i < length rows) × PlaceDivides (lead_at rows i) k
+is_divided-position [] k h = cc
+is_divided-position (v ∷ vs) k h =
+    elim (or_cases (lead_divides v.terms k) (is_divided vs k) h) [
+      | inl here ↦ (0, omega arith, lead_divides-place v.terms k here)
+      | inr there ↦ let found = is_divided-position vs k there in (suc found.0, omega (arith, found.1), found.2)
+    ]
+
+-- the coefficient at row i that gives a multiple of the row which begins with t
+abbrev pub step : List Vector → ℕ → Term Place → Term Place
+step rows i t = record { at = record { position = i; monomial = quotient t.at.monomial (lead_at rows i).monomial }; coefficient = t.coefficient }
+
+pub image-step : (rows : List Vector) (i : ℕ) (t : Term Place) → PlaceDivides (lead_at rows i) t.at → image (lead_at rows) (step rows i t).at ≡ t.at
+image-step rows i t h = place_product-quotient (lead_at rows i) t.at h
+
+module _ (p : ℕ) (target : List ℤ) (rows : List Vector) (monic : AllByRecursion (IsMonicVector p target) rows) where
+  pub monic_row : (i : ℕ) → i < length rows → IsMonicVector p target (record { degree = generator_degree (degrees_of rows) i; terms = row_at rows i })
+  monic_row = AllByRecursion-row_at (λ d ts. IsMonicVector p target (record { degree = d; terms = ts })) rows monic
+
+  pub monic_homogeneous : HasHomogeneousRows target rows
+  monic_homogeneous = AllByRecursion-weaken _ _ (λ v h. h.vector.homogeneous) rows monic
+
+  pub row_multiple : IsPrime p → (i : ℕ) → i < length rows → (t : Term Place) → IsNonzeroResidue p t → PlaceDivides (lead_at rows i) t.at
+      → (us : List (Term Place)) × (row_combination p rows (step rows i t ∷ []) ≡ t ∷ us)
+  row_multiple prime i within t nonzero divides =
+      let row = monic_row i within in
+      let shape = IsMonic-shape (row_at rows i) row.monic in
+      let s : Term _ = record { at = quotient t.at.monomial (lead_at rows i).monomial; coefficient = t.coefficient } in
+      let first : term_product place_product p s (record { at = lead_at rows i; coefficient = 1 }) ≡ t =
+      λ j. record {
+        at = place_product-quotient (lead_at rows i) t.at divides j;
+        coefficient = (product_mod-one p t.coefficient ∙ mod-eq_of_lt nonzero.1) j;
+      } in (
+        map (term_product place_product p s) (tail_of (row_at rows i)),
+        row_combination-one p (omega (arith, prime.above_one)) rows (step rows i t)
+        ∙ multiple-map place_keys p s prime nonzero (row_at rows i) row.vector.canonical
+        ∙ ap (map (term_product place_product p s)) shape
+        ∙ ap (λ u. u ∷ map (term_product place_product p s) (tail_of (row_at rows i))) first,
+      )
+
+  -- it has the degree of t
+  pub IsTermOfDegree-step : (i : ℕ) → i < length rows → (d : ℤ) (t : Term Place) → PlaceDivides (lead_at rows i) t.at → IsTermOfDegree target d t → IsTermOfDegree (degrees_of rows) d (step rows i t)
+  IsTermOfDegree-step i within d t divides h =
+      let row = monic_row i within in
+      let shape = IsMonic-shape (row_at rows i) row.monic in
+      let lead : Term Place = record { at = lead_at rows i; coefficient = 1 } in
+      let own : generator_degree (degrees_of rows) i ≡ term_degree target lead =
+      (subst (IsHomogeneous target (generator_degree (degrees_of rows) i)) shape row.vector.homogeneous).0.1 in
+      let sums : exponent_sum t.at.monomial ≡ exponent_sum (lead_at rows i).monomial + exponent_sum (quotient t.at.monomial (lead_at rows i).monomial) =
+      ap exponent_sum (sym (product-quotient t.at.monomial (lead_at rows i).monomial divides.1)) ∙ exponent_sum-product (lead_at rows i).monomial (quotient t.at.monomial (lead_at rows i).monomial) in
+      let position : generator_degree target t.at.position ≡ generator_degree target (lead_at rows i).position = ap (generator_degree target) (sym divides.0) in (
+        rw length-map within,
+        degrees d (generator_degree (degrees_of rows) i) (generator_degree target t.at.position) (generator_degree target (lead_at rows i).position) _ _ _ h.1 own position sums,
+      )
+    where
+      degrees : (d r g l : ℤ) (s a b : ℕ) → d ≡ g +ℤ pos s → r ≡ l +ℤ pos a → g ≡ l → s ≡ a + b → d ≡ r +ℤ pos b
+      degrees d r g l s a b h1 h2 h3 h4 = omega (arith, ints)
