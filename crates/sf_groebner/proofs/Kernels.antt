@@ -61,6 +61,19 @@ module _ (p : ℕ) (positive : 0 < p) where
         ∙ ap (add place_cmp p (row_combination p rows c)) none
         ∙ add-nil place_cmp place_cmp_linear p positive (row_combination p rows c) (IsCanonical-row_combination p positive rows c)
 
+    pub row_combination-append_zero_first : (c d : List (Term Place)) → row_combination p rows c ≡ [] → row_combination p rows (c ++ d) ≡ row_combination p rows d
+    row_combination-append_zero_first c d none = row_combination-SameTotals (SameTotals-swap p c d) ∙ row_combination-append_zero d c none
+
+    -- what has the same combination taken away
+    pub row_combination-difference : (c d : List (Term Place)) → row_combination p rows c ≡ row_combination p rows d → row_combination p rows (c ++ map (term_product place_product p (negative_one_term p)) d) ≡ []
+    row_combination-difference c d same =
+        let minus : List (Term Place) = map (term_product place_product p (negative_one_term p)) d in
+        row_combination-append p positive rows c minus
+        ∙ ap (λ us. add place_cmp p us (row_combination p rows minus)) same
+        ∙ sym (row_combination-append p positive rows d minus)
+        ∙ row_combination-SameTotals (SameTotals-negative place_keys p positive d)
+        ∙ row_combination-nil p positive rows
+
     -- the combination is 0
     abbrev pub IsZero : List (Term Place) → Type 0
     IsZero c = row_combination p rows c ≡ []
@@ -95,13 +108,7 @@ module _ (p : ℕ) (positive : 0 < p) where
       settled-reduces steps below value =
           let minus : List (Term Place) = map (term_product place_product p (negative_one_term p)) steps in
           let terms = pair_terms p lead i j in
-          let none : row_combination p rows (terms ++ minus) ≡ [] =
-          row_combination-append p positive rows terms minus
-          ∙ ap (λ us. add place_cmp p us (row_combination p rows minus)) (sym value)
-          ∙ sym (row_combination-append p positive rows steps minus)
-          ∙ row_combination-SameTotals (SameTotals-negative place_keys p positive steps)
-          ∙ row_combination-nil p positive rows in
-          settled-syzygy IsZero steps (terms ++ minus) below none
+          settled-syzygy IsZero steps (terms ++ minus) below (row_combination-difference terms steps (sym value))
           (SameTotals-trans p (SameTotals-equal p _ _ (append_assoc terms minus steps))
           (SameTotals-trans p
           (SameTotals-append p (SameTotals-refl p terms) (SameTotals-trans p (SameTotals-swap p minus steps) (SameTotals-negative place_keys p positive steps)))

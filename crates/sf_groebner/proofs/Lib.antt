@@ -20,6 +20,7 @@ pub mod MonicRows
 pub mod Kernels
 pub mod Buchberger
 pub mod Schreyer
+pub mod PairDegrees
 pub mod BoundedCriterion
 pub mod SVectors
 pub mod GrowingRows
@@ -51,3 +52,5 @@ pub mod Completions
 pub mod Tails
 pub mod SortedRows
 pub mod ReducedExistence
+pub mod PairSyzygies
+pub mod FewerSyzygies

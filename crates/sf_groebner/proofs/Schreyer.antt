@@ -34,7 +34,7 @@ pub record IsSpanned (p : ℕ) (zs : List Vector) (c : List (Term Place)) : Type
   pub value : row_combination p zs coefficients ≡ normal place_cmp p c
 
 -- the coefficients of a pair, by the sum of its syzygy and its steps
-SameTotals-from_sum : (p : ℕ) (z steps terms : List (Term Place)) → add place_cmp p z steps ≡ normal place_cmp p terms → SameTotals p (z ++ steps) terms
+pub SameTotals-from_sum : (p : ℕ) (z steps terms : List (Term Place)) → add place_cmp p z steps ≡ normal place_cmp p terms → SameTotals p (z ++ steps) terms
 unfolding add
 SameTotals-from_sum p z steps terms e = SameTotals-from_normal place_cmp place_cmp_linear p (z ++ steps) terms e
 

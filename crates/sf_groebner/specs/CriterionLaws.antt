@@ -57,6 +57,12 @@ DropsChains =
     (p : ℕ) → 0 < p → (rows : List Vector) (i j k : ℕ) → HaveLeadsAtOnePosition rows i k → PlaceDivides (lead_at rows j) (lcm_place (lead_at rows) i k)
     → ReducesToZero p rows i j → ReducesToZero p rows j k → ReducesToZero p rows i k
 
+-- a pair of homogeneous rows reduces to zero exactly where it has a syzygy
+abbrev pub HasPairSyzygies : Type 0
+HasPairSyzygies =
+    (m : Matrix) → 0 < m.modulus → IsMatrix m → AllByRecursion (IsMonicRow m.modulus) m.rows
+    → (i j : ℕ) → IsPair m.rows i j → ReducesToZero m.modulus m.rows i j ↔ ((z : Vector) × IsSyzygy m z × IsPairSyzygy m.modulus m.rows i j z.terms)
+
 -- Schreyer's theorem: syzygies of monic rows, one for each pair, span all syzygies
 abbrev pub SpansSyzygies : Type 0
 SpansSyzygies =

@@ -1,4 +1,4 @@
-ghost use Rattle.sf_groebner.specs.CriterionLaws.{CancelsLeads, DropsChains, IsBuchbergersCriterion, IsCriterionUpToDegree, SpansSyzygies, TakesEitherOrder};
+ghost use Rattle.sf_groebner.specs.CriterionLaws.{CancelsLeads, DropsChains, HasPairSyzygies, IsBuchbergersCriterion, IsCriterionUpToDegree, SpansSyzygies, TakesEitherOrder};
 
 /// Monic rows are a Gröbner basis of what they span exactly where the S-vectors of their pairs reduce to zero.
 pub fn pairs_decide_bases()
@@ -9,7 +9,8 @@ pub fn pairs_decide_bases()
     ensures chains { DropsChains }
 {}
 
-/// The syzygies that come from the pairs of monic rows span all syzygies of the rows.
+/// Each pair of rows that reduces to zero gives a syzygy, and these span all syzygies of the rows.
 pub fn pairs_give_syzygies()
+    ensures syzygies { HasPairSyzygies }
     ensures span { SpansSyzygies }
 {}
