@@ -1,31 +1,22 @@
 -- Buchberger's criterion for homogeneous rows up to a degree: only the pairs count whose least common multiple is of that degree
 -- or less. (Cox, Little, O'Shea, "Using Algebraic Geometry", chapter 5, section 2.)
-use Rattle.std.proofs.Common.{◌≡◌, ℕ, ◌<◌, List, [], ◌∷◌, length, refl, sym, ◌∙◌, ap, subst, arith, ℤ, pos, ◌+ℤ◌, ◌≤ℤ◌}
+use Rattle.std.proofs.Common.{◌≡◌, ℕ, ◌<◌, length, refl, sym, ◌∙◌, ap, subst, arith, ℤ, pos, ◌+ℤ◌, ◌≤ℤ◌}
 use Rattle.std.specs.List.{AllByRecursion}
 use Rattle.std.proofs.lemmas.Int.{ints}
 use Rattle.std.proofs.lemmas.List.{length-map}
-use Rattle.sf_algebra.specs.DegreeParts.{degree_part, has_degree}
 use Rattle.sf_algebra.specs.Matrices.{Matrix, IsMatrix, row_degrees}
-use Rattle.sf_algebra.specs.MatrixOperations.{row_at, row_combination}
-use Rattle.sf_algebra.specs.Monomials.{Monomial, exponent_sum}
+use Rattle.sf_algebra.specs.MatrixOperations.{row_combination}
+use Rattle.sf_algebra.specs.Monomials.{exponent_sum}
 use Rattle.sf_algebra.specs.Multiples.{place_product}
-use Rattle.sf_algebra.specs.Terms.{Term}
-use Rattle.sf_algebra.specs.Vectors.{Place, Vector, generator_degree, IsHomogeneous, IsTermOfDegree}
-use Rattle.sf_algebra.proofs.Degrees.{HasHomogeneousRows, IsHomogeneous-row_at, IsHomogeneous-row_combination}
-use Rattle.sf_algebra.proofs.DegreeParts.{IsHomogeneous-degree_part, row_combination-degree_part}
-use Rattle.sf_algebra.proofs.Filters.{AllByRecursion-filter_keeps}
-use Rattle.sf_algebra.proofs.HomogeneousVectors.{HasHomogeneousRows-from_IsMatrix}
-use Rattle.sf_algebra.proofs.Products.{exponent_sum-product}
-use Rattle.sf_groebner.specs.Criterion.{HasImageBelow, HaveLeadsAtOnePosition, IsMonicRow, ReducesToZero, image, lcm_place, lead_at, lead_place, pair_place, pair_terms, place_degree}
-use Rattle.sf_groebner.specs.ReducedBases.{HasDividedLead, IsMonic}
+use Rattle.sf_algebra.specs.Vectors.{Vector}
+use Rattle.sf_groebner.specs.Criterion.{HaveLeadsAtOnePosition, IsMonicRow, ReducesToZero, lcm_place, lead_at, pair_place, place_degree}
+use Rattle.sf_groebner.specs.ReducedBases.{HasDividedLead}
 use Rattle.sf_groebner.specs.Spans.{IsCoefficients}
 use Rattle.sf_groebner.proofs.Buchberger.{buchberger_at}
-use Rattle.sf_groebner.proofs.Items.{AllByRecursion-both}
 use Rattle.sf_groebner.proofs.Images.{IsSettled}
-use Rattle.sf_groebner.proofs.Kernels.{IsZero, settled-reduces}
-use Rattle.sf_groebner.proofs.MonicRows.{IsMonicRow-row_at}
+use Rattle.sf_groebner.proofs.Kernels.{IsZero}
 use Rattle.sf_groebner.proofs.PairDegrees.{HasPlaceOfDegree, place_degree-pair_place, place_degree-product, settled_in_degree}
-use Rattle.sf_groebner.proofs.Pairs.{cofactor, image-pair_place, lcm_place-comm, place_product-pair_place_first, same_lead_position}
+use Rattle.sf_groebner.proofs.Pairs.{cofactor, place_product-pair_place_first, same_lead_position}
 
 -- the criterion up to degree d
 pub buchberger_up_to : (m : Matrix) → IsMatrix m → AllByRecursion (IsMonicRow m.modulus) m.rows → 0 < m.modulus → (d : ℤ)

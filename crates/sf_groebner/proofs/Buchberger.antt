@@ -2,7 +2,6 @@
 -- a row divides. (Cox, Little, O'Shea, "Using Algebraic Geometry", chapter 5, section 2.)
 use Rattle.std.proofs.Common.{◌≡◌, ⊎_elim, ℕ, ◌<◌, List, [], length, sym, ◌∙◌, subst}
 use Rattle.std.specs.List.{AllByRecursion}
-use Rattle.sf_algebra.specs.Divisibility.{quotient}
 use Rattle.sf_algebra.specs.MatrixOperations.{row_combination}
 use Rattle.sf_algebra.specs.Multiples.{place_product}
 use Rattle.sf_algebra.specs.Terms.{Term}
@@ -14,9 +13,7 @@ use Rattle.sf_groebner.specs.ReducedBases.{HasDividedLead}
 use Rattle.sf_groebner.proofs.Images.{IsSettled, IsUnder}
 use Rattle.sf_groebner.proofs.Kernels.{IsZero, IsZero-module, reduces-settled, settled-reduces}
 use Rattle.sf_groebner.proofs.MonicRows.{HasDividedLead-Begins, lead_bound, monic_leads}
-use Rattle.sf_groebner.proofs.Pairs.{IsSettled-chain, IsSettled-turn, cofactor, image-pair_place, lcm_place-comm, same_lead_position, settled_pair, settled_pairs}
-use Rattle.sf_groebner.proofs.PlaceDivisors.{place_product-quotient}
-use Rattle.sf_groebner.proofs.Settled.{IsSettled-sym, IsSettled-trans}
+use Rattle.sf_groebner.proofs.Pairs.{IsSettled-chain, IsSettled-turn, cofactor, image-pair_place, lcm_place-comm, same_lead_position, settled_pairs}
 use Rattle.sf_groebner.proofs.Standard.{standard}
 use Rattle.sf_groebner.proofs.TopCoefficients.{Begins}
 

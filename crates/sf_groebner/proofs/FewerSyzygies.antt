@@ -1,6 +1,6 @@
 -- Schreyer's theorem with the chain criterion: pairs that the criterion drops need no syzygy. (Cox, Little, O'Shea, "Using Algebraic
 -- Geometry", chapter 5, section 3.)
-use Rattle.std.proofs.Common.{◌≡◌, ℕ, ◌<◌, List, [], ◌∷◌, length, ⊎_elim, ◌⊎◌, inl, inr}
+use Rattle.std.proofs.Common.{◌≡◌, ℕ, ◌<◌, List, [], ◌∷◌, length, ⊎_elim, inl, inr}
 use Rattle.std.specs.List.{AllByRecursion}
 use Rattle.sf_algebra.specs.MatrixOperations.{row_at, row_combination}
 use Rattle.sf_algebra.specs.Terms.{Term}
@@ -31,10 +31,11 @@ module _ (p : ℕ) (positive : 0 < p) (rows zs : List Vector) where
   -- the pairs that were handled, each by a syzygy or by the chain criterion, are settled
   IsHandled-settled : (handled : List (ℕ × ℕ)) → IsHandled (HasPairSyzygy p rows zs) rows handled → IsHandled IsSettledBySyzygies rows handled
   IsHandled-settled [] h = tt
-  IsHandled-settled (x ∷ earlier) h =
-      (h.0,
-      ⊎_elim (λ (found : HasPairSyzygy p rows zs x.0 x.1). inl (IsSettled-syzygy x.0 x.1 h.0 found)) (λ (chained : IsChained rows earlier x.0 x.1). inr chained) h.1,
-      IsHandled-settled earlier h.2)
+  IsHandled-settled (x ∷ earlier) h = (
+    h.0,
+    ⊎_elim (λ (found : HasPairSyzygy p rows zs x.0 x.1). inl (IsSettled-syzygy x.0 x.1 h.0 found)) (λ (chained : IsChained rows earlier x.0 x.1). inr chained) h.1,
+    IsHandled-settled earlier h.2,
+  )
 
   pub schreyer_handled : AllByRecursion (λ (z : Vector). row_combination p rows z.terms ≡ []) zs → AllByRecursion (IsMonicRow p) rows
       → (handled : List (ℕ × ℕ)) → IsHandled (HasPairSyzygy p rows zs) rows handled

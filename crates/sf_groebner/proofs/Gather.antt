@@ -10,7 +10,7 @@ use Rattle.sf_algebra.specs.Vectors.{Place, place_cmp}
 use Rattle.sf_algebra.proofs.Lists.{AllByRecursion-append}
 use Rattle.sf_algebra.proofs.Normal.{EachPlace}
 use Rattle.sf_algebra.proofs.Orders.{ordering_cases, place_cmp-Equal}
-use Rattle.sf_algebra.proofs.Residues.{sum_mod-assoc, sum_mod-comm, sum_mod-first, sum_mod-zero, sum_mod-zero_first}
+use Rattle.sf_algebra.proofs.Residues.{sum_mod-assoc, sum_mod-left_comm, sum_mod-first, sum_mod-zero, sum_mod-zero_first}
 use Rattle.sf_algebra.proofs.SameTotals.{SameTotals, SameTotals-append, SameTotals-equal, SameTotals-products, SameTotals-refl, SameTotals-sym, SameTotals-trans}
 use Rattle.sf_algebra.proofs.Totals.{total-append, total-cons, total-nil, total-reduced}
 use Rattle.sf_groebner.specs.Criterion.{image}
@@ -96,11 +96,8 @@ module _ (p : ℕ) (In : Place → Type 0) (lead : ℕ → Place) (S : List (Ter
             left ∙ sorted gx gy te tu td ts ∙ sym right;
       }
         where
-          swap : (a b c : ℕ) → sum_mod p a (sum_mod p b c) ≡ sum_mod p b (sum_mod p a c)
-          swap a b c = sym (sum_mod-assoc p a b c) ∙ ap (λ n. sum_mod p n c) (sum_mod-comm p a b) ∙ sum_mod-assoc p b a c
-
           sorted : (gx gy te tu td ts : ℕ) → sum_mod p (sum_mod p gx (sum_mod p te tu)) (sum_mod p td (sum_mod p gy ts)) ≡ sum_mod p (sum_mod p te td) (sum_mod p (sum_mod p gx gy) (sum_mod p tu ts))
-          sorted gx gy te tu td ts = simp (sum_mod-assoc, swap)
+          sorted gx gy te tu td ts = simp (sum_mod-assoc, sum_mod-left_comm)
 
   pub gather : IsAllSettled p In lead S → In r → image lead r ≡ b → (c : List (Term Place)) → EachPlace (IsAtMost In lead b) c → IsGathered p In lead S r b c (total p (top_part lead b) c)
   gather settled inside e [] h = subst (IsGathered p In lead S r b []) (sym (total-nil p (top_part lead b))) gather_none

@@ -5,6 +5,7 @@ pub mod SpanGroups
 pub mod Images
 pub mod Multiplied
 pub mod Gather
+pub mod PlaceOrder
 pub mod TopCoefficients
 pub mod Standard
 pub mod Propositions

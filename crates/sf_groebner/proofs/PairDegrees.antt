@@ -1,28 +1,27 @@
 -- Degrees of pairs of homogeneous rows: a pair that reduces to zero does so by steps of its own degree.
-use Rattle.std.proofs.Common.{◌≡◌, ℕ, ◌+◌, ◌<◌, List, [], ◌∷◌, length, map, refl, sym, ◌∙◌, ap, subst, arith, ℤ, pos, ◌+ℤ◌, ◌≤ℤ◌}
+use Rattle.std.proofs.Common.{◌≡◌, ℕ, ◌<◌, List, [], ◌∷◌, length, sym, ◌∙◌, ap, subst, arith, ℤ, pos, ◌+ℤ◌}
 use Rattle.std.specs.List.{AllByRecursion}
 use Rattle.std.proofs.lemmas.Int.{ints}
 use Rattle.std.proofs.lemmas.List.{length-map}
 use Rattle.sf_algebra.specs.DegreeParts.{degree_part, has_degree}
 use Rattle.sf_algebra.specs.Matrices.{Matrix, IsMatrix, row_degrees}
-use Rattle.sf_algebra.specs.MatrixOperations.{row_at, row_combination}
+use Rattle.sf_algebra.specs.MatrixOperations.{row_at}
 use Rattle.sf_algebra.specs.Monomials.{Monomial, exponent_sum}
 use Rattle.sf_algebra.specs.Multiples.{place_product}
 use Rattle.sf_algebra.specs.Terms.{Term}
-use Rattle.sf_algebra.specs.Vectors.{Place, Vector, generator_degree, IsHomogeneous, IsTermOfDegree}
-use Rattle.sf_algebra.proofs.Degrees.{HasHomogeneousRows, IsHomogeneous-row_at, IsHomogeneous-row_combination}
+use Rattle.sf_algebra.specs.Vectors.{Place, generator_degree, IsHomogeneous, IsTermOfDegree}
+use Rattle.sf_algebra.proofs.Degrees.{IsHomogeneous-row_at, IsHomogeneous-row_combination}
 use Rattle.sf_algebra.proofs.DegreeParts.{IsHomogeneous-degree_part, row_combination-degree_part}
 use Rattle.sf_algebra.proofs.Filters.{AllByRecursion-filter_keeps}
 use Rattle.sf_algebra.proofs.HomogeneousVectors.{HasHomogeneousRows-from_IsMatrix}
 use Rattle.sf_algebra.proofs.Products.{exponent_sum-product}
 use Rattle.sf_groebner.specs.Criterion.{HasImageBelow, HaveLeadsAtOnePosition, IsMonicRow, ReducesToZero, image, lcm_place, lead_at, lead_place, pair_place, pair_terms, place_degree}
-use Rattle.sf_groebner.specs.ReducedBases.{HasDividedLead, IsMonic}
-use Rattle.sf_groebner.specs.Spans.{IsCoefficients}
+use Rattle.sf_groebner.specs.ReducedBases.{IsMonic}
 use Rattle.sf_groebner.proofs.Items.{AllByRecursion-both}
 use Rattle.sf_groebner.proofs.Images.{IsSettled}
 use Rattle.sf_groebner.proofs.Kernels.{IsZero, settled-reduces}
 use Rattle.sf_groebner.proofs.MonicRows.{IsMonicRow-row_at}
-use Rattle.sf_groebner.proofs.Pairs.{cofactor, image-pair_place, lcm_place-comm, place_product-pair_place_first, same_lead_position}
+use Rattle.sf_groebner.proofs.Pairs.{image-pair_place, lcm_place-comm}
 
 -- a place for a row whose degree is d
 abbrev pub HasPlaceOfDegree : List ℤ → ℤ → Place → Type 0
@@ -75,13 +74,14 @@ module _ (m : Matrix) (is_matrix : IsMatrix m) (monic : AllByRecursion (IsMonicR
     pub ReducesToZero-degree : ReducesToZero m.modulus m.rows i j → (r : ReducesToZero m.modulus m.rows i j) × IsHomogeneous (row_degrees m) f r.steps
     ReducesToZero-degree h =
         let rows_homogeneous = HasHomogeneousRows-from_IsMatrix m is_matrix in
-        let pair_homogeneous = IsHomogeneous-row_combination m.target m.modulus m.rows rows_homogeneous f (pair_terms m.modulus (lead_at m.rows) i j) IsHomogeneous-pair_terms in
-        (record {
-          steps = degree_part (row_degrees m) f h.steps;
-          below = AllByRecursion-filter_keeps _ (has_degree (row_degrees m) f) h.steps h.below;
-          value = row_combination-degree_part m.target f m.modulus m.rows rows_homogeneous positive h.steps (subst (IsHomogeneous m.target f) (sym h.value) pair_homogeneous) ∙ h.value;
-        },
-        IsHomogeneous-degree_part (row_degrees m) f h.steps)
+        let pair_homogeneous = IsHomogeneous-row_combination m.target m.modulus m.rows rows_homogeneous f (pair_terms m.modulus (lead_at m.rows) i j) IsHomogeneous-pair_terms in (
+          record {
+            steps = degree_part (row_degrees m) f h.steps;
+            below = AllByRecursion-filter_keeps _ (has_degree (row_degrees m) f) h.steps h.below;
+            value = row_combination-degree_part m.target f m.modulus m.rows rows_homogeneous positive h.steps (subst (IsHomogeneous m.target f) (sym h.value) pair_homogeneous) ∙ h.value;
+          },
+          IsHomogeneous-degree_part (row_degrees m) f h.steps,
+        )
 
     -- so times a monomial it is settled in the degree of the product
     pub settled_in_degree : ReducesToZero m.modulus m.rows i j → (a : Monomial)

@@ -1,21 +1,18 @@
 -- A pair of rows reduces to zero exactly where it has a syzygy; over homogeneous rows it has a homogeneous one.
-use Rattle.std.proofs.Common.{◌≡◌, ◌⊎◌, ⊎_elim, ℕ, ◌<◌, List, [], ◌∷◌, ◌++◌, length, map, refl, sym, ◌∙◌, ap, subst, arith, append_assoc, append-nil, ℤ}
+use Rattle.std.proofs.Common.{◌≡◌, ℕ, ◌<◌, List, ◌++◌, length, map, refl, sym, ◌∙◌, append_assoc, append-nil}
 use Rattle.std.specs.List.{AllByRecursion}
 use Rattle.sf_algebra.specs.Matrices.{Matrix, IsMatrix, row_degrees}
-use Rattle.sf_algebra.specs.MatrixOperations.{row_at, row_combination}
 use Rattle.sf_algebra.specs.Multiples.{place_product, term_product}
 use Rattle.sf_algebra.specs.Sums.{normal, add}
 use Rattle.sf_algebra.specs.Terms.{Term}
-use Rattle.sf_algebra.specs.Vectors.{Place, Vector, place_cmp, IsHomogeneous, IsTermOfDegree}
+use Rattle.sf_algebra.specs.Vectors.{Place, Vector, place_cmp, IsTermOfDegree}
 use Rattle.sf_algebra.proofs.Degrees.{IsHomogeneous-normal}
 use Rattle.sf_algebra.proofs.Keys.{place_keys}
 use Rattle.sf_algebra.proofs.Lists.{AllByRecursion-append}
 use Rattle.sf_algebra.proofs.Negatives.{negative_one_term}
 use Rattle.sf_algebra.proofs.Normal.{IsCanonical-normal}
 use Rattle.sf_algebra.proofs.Orders.{place_cmp_linear}
-use Rattle.sf_algebra.proofs.Rows.{row_combination-append}
-use Rattle.sf_algebra.proofs.SameTotals.{SameTotals, SameTotals-append, SameTotals-equal, SameTotals-negative, SameTotals-normal, SameTotals-refl, SameTotals-swap, SameTotals-sym, SameTotals-trans, normal-SameTotals}
-use Rattle.sf_algebra.proofs.Sums.{add_comm}
+use Rattle.sf_algebra.proofs.SameTotals.{SameTotals-append, SameTotals-equal, SameTotals-negative, SameTotals-normal, SameTotals-refl, SameTotals-swap, SameTotals-trans, normal-SameTotals}
 use Rattle.sf_groebner.specs.Criterion.{HaveLeadsAtOnePosition, IsMonicRow, IsPairSyzygy, ReducesToZero, lead_at, pair_place, pair_terms, place_degree}
 use Rattle.sf_groebner.specs.Spans.{IsSyzygy}
 use Rattle.sf_groebner.proofs.Kernels.{row_combination-SameTotals, row_combination-append_zero_first, row_combination-difference}
@@ -64,16 +61,17 @@ homogeneous_syzygy m is_matrix monic positive i j i_in j_in positions h =
     let d = place_degree (row_degrees m) (pair_place (lead_at m.rows) i j) in
     let r = ReducesToZero-degree m is_matrix monic positive i j i_in j_in positions d refl h in
     let z = normal place_cmp m.modulus (pair_difference m.modulus positive m.rows i j r.0.steps) in
-    let syzygy = IsPairSyzygy-ReducesToZero m.modulus positive m.rows i j r.0 in
-    (record { degree = d; terms = z },
-    record {
-      coefficients = record {
-        canonical = IsCanonical-normal place_cmp place_cmp_linear m.modulus positive (pair_difference m.modulus positive m.rows i j r.0.steps);
-        homogeneous = IsHomogeneous-normal (row_degrees m) m.modulus d (pair_difference m.modulus positive m.rows i j r.0.steps)
-            (AllByRecursion-append (IsTermOfDegree (row_degrees m) d) (pair_terms m.modulus (lead_at m.rows) i j) _
-            (IsHomogeneous-pair_terms m is_matrix monic positive i j i_in j_in positions d refl)
-            (EachPlace-constant (HasPlaceOfDegree (row_degrees m) d) m.modulus _ r.0.steps r.1));
-      };
-      zero = syzygy.zero;
-    },
-    syzygy)
+    let syzygy = IsPairSyzygy-ReducesToZero m.modulus positive m.rows i j r.0 in (
+      record { degree = d; terms = z },
+      record {
+        coefficients = record {
+          canonical = IsCanonical-normal place_cmp place_cmp_linear m.modulus positive (pair_difference m.modulus positive m.rows i j r.0.steps);
+          homogeneous = IsHomogeneous-normal (row_degrees m) m.modulus d (pair_difference m.modulus positive m.rows i j r.0.steps)
+              (AllByRecursion-append (IsTermOfDegree (row_degrees m) d) (pair_terms m.modulus (lead_at m.rows) i j) _
+              (IsHomogeneous-pair_terms m is_matrix monic positive i j i_in j_in positions d refl)
+              (EachPlace-constant (HasPlaceOfDegree (row_degrees m) d) m.modulus _ r.0.steps r.1));
+        };
+        zero = syzygy.zero;
+      },
+      syzygy,
+    )

@@ -2,7 +2,6 @@
 -- what its places are less than; so the pairs of the rows reduce to zero.
 use Rattle.std.proofs.Common.{◌≡◌, ◌≢◌, ◌⊎◌, inl, inr, ℕ, suc, ◌<◌, List, [], ◌∷◌, ◌++◌, length, if◌then◌else◌, Bool, true, false, ◌||◌, IsTrue, refl, sym, ◌∙◌, ap, subst, arith, append_assoc, append-nil}
 use Rattle.std.proofs.lemmas.Cmp.{tied_itself}
-use Rattle.std.specs.declared.cmp.Ordering.{Ordering}
 use Rattle.std.specs.declared.cmp.Ordering.TheVariants.{Less, Equal, Greater}
 use Rattle.std.specs.List.{AllByRecursion}
 use Rattle.std.specs.Ordering.{is_eq}
@@ -34,6 +33,7 @@ use Rattle.sf_groebner.proofs.Images.{IsAtMost, top_part}
 use Rattle.sf_groebner.proofs.Kernels.{row_combination-SameTotals}
 use Rattle.sf_groebner.proofs.MonicRows.{lead_bound, lead_bound-row, monic_leads}
 use Rattle.sf_groebner.proofs.PlaceDivisors.{Decides-place_divides, place_product-quotient}
+use Rattle.sf_groebner.proofs.PlaceOrder.{Equal-not_Greater, Less-not_Greater}
 use Rattle.sf_groebner.proofs.Standard.{place_induction}
 use Rattle.sf_groebner.proofs.SVectors.{below_at, s_vector-below}
 use Rattle.sf_groebner.proofs.TopCoefficients.{coefficient_at-top, row_combination-at_most}
@@ -61,12 +61,6 @@ pub record IsRepresented (p : ℕ) (rows : List Vector) (b : Place) (c : List (T
   pub below : AllByRecursion (HasImageBelow rows b) steps
   pub value : row_combination p rows steps ≡ row_combination p rows c
 
-not_greater : (o : Ordering) → o ≡ Less → o ≢ Greater
-not_greater o less greater = cc
-
-not_greater_equal : (o : Ordering) → o ≡ Equal → o ≢ Greater
-not_greater_equal o equal greater = cc
-
 module _ (p : ℕ) (positive : 0 < p) (rows : List Vector) (monic : AllByRecursion (IsMonicRow p) rows) where
   -- the coefficients that cancel the lead t of a combination, where the lead of row i divides it
   module _ (t : Term Place) (i : ℕ) (within : i < length rows) (divides : PlaceDivides (lead_at rows i) t.at) where
@@ -83,7 +77,7 @@ module _ (p : ℕ) (positive : 0 < p) (rows : List Vector) (monic : AllByRecursi
     image_opposite = ap (λ k. place_cmp (image (lead_at rows) k) t.at) (place_product-one step.at) ∙ ap (λ k. place_cmp k t.at) image_step ∙ tied_itself place_cmp_total t.at
 
     opposite_most : EachPlace (IsAtMost (IsInside rows) (lead_at rows) t.at) (opposite ∷ [])
-    opposite_most = ((within, not_greater_equal _ image_opposite), tt)
+    opposite_most = ((within, Equal-not_Greater _ image_opposite), tt)
 
     coefficient_at-opposite : coefficient_at place_cmp p t.at (row_combination p rows (opposite ∷ [])) ≡ product_mod p (negative_mod p 1) t.coefficient
     coefficient_at-opposite =
@@ -102,7 +96,7 @@ module _ (p : ℕ) (positive : 0 < p) (rows : List Vector) (monic : AllByRecursi
         below_at p t.at (row_combination p rows (c ++ opposite ∷ [])) (IsCanonical-row_combination p positive rows (c ++ opposite ∷ []))
         (subst (EachPlace (λ k. place_cmp k t.at ≢ Greater)) (sym value)
         (EachPlace-add (λ k. place_cmp k t.at ≢ Greater) place_cmp p (row_combination p rows c) (row_combination p rows (opposite ∷ []))
-        (subst (EachPlace (λ k. place_cmp k t.at ≢ Greater)) (sym e) (not_greater_equal _ (tied_itself place_cmp_total t.at), AllByRecursion-weaken _ _ (λ u less. not_greater _ less) ts canonical.descending.0))
+        (subst (EachPlace (λ k. place_cmp k t.at ≢ Greater)) (sym e) (Equal-not_Greater _ (tied_itself place_cmp_total t.at), AllByRecursion-weaken _ _ (λ u less. Less-not_Greater _ less) ts canonical.descending.0))
         (row_combination-at_most p (lead_bound rows) (IsInside rows) rows (lead_at rows) (monic_leads p rows monic (IsInside rows) (λ k h. h)) t.at (opposite ∷ []) opposite_most)))
         (ap (coefficient_at place_cmp p t.at) value
         ∙ coefficient_at-add place_keys p t.at (row_combination p rows c) (row_combination p rows (opposite ∷ []))

@@ -1,7 +1,6 @@
 -- The S-vector of a pair of monic rows: its places are less than the least common multiple of the leads.
 use Rattle.std.proofs.Common.{◌≡◌, ◌≢◌, ℕ, ◌<◌, List, [], ◌∷◌, length, if◌then◌else◌, sym, ◌∙◌, ap, subst, arith}
 use Rattle.std.proofs.lemmas.Cmp.{tied_itself}
-use Rattle.std.specs.declared.cmp.Ordering.{Ordering}
 use Rattle.std.specs.declared.cmp.Ordering.TheVariants.{Equal, Greater}
 use Rattle.std.specs.Ordering.{is_eq}
 use Rattle.std.specs.List.{AllByRecursion}
@@ -22,6 +21,7 @@ use Rattle.sf_groebner.proofs.Buchberger.{IsInside}
 use Rattle.sf_groebner.proofs.Images.{IsAtMost, top_part}
 use Rattle.sf_groebner.proofs.MonicRows.{lead_bound, monic_leads}
 use Rattle.sf_groebner.proofs.Pairs.{image-pair_place, lcm_place-comm}
+use Rattle.sf_groebner.proofs.PlaceOrder.{Equal-not_Greater}
 use Rattle.sf_groebner.proofs.TopCoefficients.{coefficient_at-top, row_combination-at_most}
 
 -- a canonical list no place of which is greater than b, and which has no coefficient at b, is below b
@@ -49,9 +49,6 @@ module _ (p : ℕ) (positive : 0 < p) (rows : List Vector) (monic : AllByRecursi
       ap (λ k. place_cmp k (lcm_place (lead_at rows) i j)) (image-pair_place (lead_at rows) j i ∙ sym (lcm_place-comm (lead_at rows) i j positions))
       ∙ tied_itself place_cmp_total (lcm_place (lead_at rows) i j)
 
-  not_above : (o : Ordering) → o ≡ Equal → o ≢ Greater
-  not_above o equal greater = cc
-
   -- there the coefficients 1 and -1 cancel
   total-pair_terms : (i j : ℕ) → HaveLeadsAtOnePosition rows i j → total p (top_part (lead_at rows) (lcm_place (lead_at rows) i j)) (pair_terms p (lead_at rows) i j) ≡ 0
   total-pair_terms i j positions =
@@ -71,7 +68,7 @@ module _ (p : ℕ) (positive : 0 < p) (rows : List Vector) (monic : AllByRecursi
       let b = lcm_place (lead_at rows) i j in
       let terms = pair_terms p (lead_at rows) i j in
       let leads = monic_leads p rows monic (IsInside rows) (λ k h. h) in
-      let most : EachPlace (IsAtMost (IsInside rows) (lead_at rows) (lcm_place (lead_at rows) i j)) (pair_terms p (lead_at rows) i j) = ((i_in, not_above _ (image_cmp-first i j)), ((j_in, not_above _ (image_cmp-second i j positions)), tt)) in
+      let most : EachPlace (IsAtMost (IsInside rows) (lead_at rows) (lcm_place (lead_at rows) i j)) (pair_terms p (lead_at rows) i j) = ((i_in, Equal-not_Greater _ (image_cmp-first i j)), ((j_in, Equal-not_Greater _ (image_cmp-second i j positions)), tt)) in
       below_at p b (s_vector p rows i j) (IsCanonical-row_combination p positive rows terms)
       (row_combination-at_most p (lead_bound rows) (IsInside rows) rows (lead_at rows) leads b terms most)
       (coefficient_at-top p (lead_bound rows) (IsInside rows) rows (lead_at rows) leads b terms most ∙ total-pair_terms i j positions)

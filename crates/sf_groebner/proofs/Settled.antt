@@ -12,7 +12,7 @@ use Rattle.sf_algebra.proofs.Lists.{AllByRecursion-append}
 use Rattle.sf_algebra.proofs.Negatives.{negative_one_term}
 use Rattle.sf_algebra.proofs.Normal.{EachPlace}
 use Rattle.sf_algebra.proofs.Places.{place_cmp-place_product, place_product-assoc}
-use Rattle.sf_algebra.proofs.Residues.{sum_mod-assoc, sum_mod-comm, sum_mod-zero}
+use Rattle.sf_algebra.proofs.Residues.{sum_mod-assoc, sum_mod-left_comm, sum_mod-zero}
 use Rattle.sf_algebra.proofs.SameTotals.{SameTotals, SameTotals-append, SameTotals-equal, SameTotals-negative, SameTotals-products, SameTotals-refl, SameTotals-sym, SameTotals-trans}
 use Rattle.sf_algebra.proofs.Totals.{total-append, total-nil, total-reduced}
 use Rattle.sf_groebner.specs.Criterion.{image}
@@ -48,11 +48,8 @@ module _ (p : ℕ) (S : List (Term Place) → Type 0) (is_module : IsModule p S)
             ∙ ap (sum_mod p (total p g us)) (total-append p g (ds ++ es) (ss ++ ts) ∙ (λ i. sum_mod p (total-append p g ds es i) (total-append p g ss ts i))));
       }
         where
-          swap : (a b c : ℕ) → sum_mod p a (sum_mod p b c) ≡ sum_mod p b (sum_mod p a c)
-          swap a b c = sym (sum_mod-assoc p a b c) ∙ ap (λ n. sum_mod p n c) (sum_mod-comm p a b) ∙ sum_mod-assoc p b a c
-
           sorted : (u d s e t : ℕ) → sum_mod p (sum_mod p u (sum_mod p d s)) (sum_mod p e t) ≡ sum_mod p u (sum_mod p (sum_mod p d e) (sum_mod p s t))
-          sorted u d s e t = simp (sum_mod-assoc, swap)
+          sorted u d s e t = simp (sum_mod-assoc, sum_mod-left_comm)
 
   -- either order
   pub IsSettled-sym : 0 < p → (j k : Place) → image lead j ≡ image lead k → IsSettled p In lead S j k → IsSettled p In lead S k j

@@ -1,10 +1,8 @@
 -- The theorem behind Buchberger's criterion and Schreyer's theorem: where pairs of places with one image are settled by a
 -- module S of combinations that are 0, each combination is in S, or begins at the image of some place. (Cox, Little, O'Shea,
 -- "Using Algebraic Geometry", chapter 5, sections 2 and 3.)
-use Rattle.std.proofs.Common.{◌≡◌, ◌≢◌, ◌⊎◌, inl, inr, ⊎_elim, ℕ, zero, suc, ◌<◌, List, [], ◌∷◌, ◌++◌, refl, sym, ◌∙◌, ap, subst}
-use Rattle.std.proofs.lemmas.Cmp.{tied_itself}
-use Rattle.std.specs.declared.cmp.Ordering.{Ordering}
-use Rattle.std.specs.declared.cmp.Ordering.TheVariants.{Less, Greater}
+use Rattle.std.proofs.Common.{◌≡◌, ◌⊎◌, inl, inr, ⊎_elim, ℕ, zero, suc, ◌<◌, List, [], ◌∷◌, ◌++◌, refl, sym, ◌∙◌, ap, subst}
+use Rattle.std.specs.declared.cmp.Ordering.TheVariants.{Less}
 use Rattle.std.specs.Ordering.{ordering_reverse}
 use mathlib.Core.WellFounded.{Acc}
 use Rattle.sf_algebra.specs.MatrixOperations.{row_at, row_combination}
@@ -14,7 +12,7 @@ use Rattle.sf_algebra.specs.Vectors.{Place, Vector, place_cmp}
 use Rattle.sf_algebra.proofs.Keys.{place_keys}
 use Rattle.sf_algebra.proofs.Lists.{AllByRecursion-weaken}
 use Rattle.sf_algebra.proofs.Normal.{EachPlace}
-use Rattle.sf_algebra.proofs.Orders.{ordering_cases, place_cmp-Equal, place_cmp_total, place_cmp_linear}
+use Rattle.sf_algebra.proofs.Orders.{ordering_cases, place_cmp_total, place_cmp_linear}
 use Rattle.sf_algebra.proofs.Rows.{IsCanonical-row_combination, row_combination-append}
 use Rattle.sf_algebra.proofs.SameTotals.{SameTotals, SameTotals-append, SameTotals-refl, SameTotals-sym, SameTotals-trans, SameTotals-zero, combination-SameTotals}
 use Rattle.sf_algebra.proofs.Sums.{add-nil}
@@ -22,6 +20,7 @@ use Rattle.sf_groebner.specs.Criterion.{image}
 use Rattle.sf_groebner.proofs.Accessible.{IsBelow, place_acc}
 use Rattle.sf_groebner.proofs.Gather.{IsGathered, gather}
 use Rattle.sf_groebner.proofs.Images.{HasLeads, IsAllSettled, IsAtMost, IsModule, top_part}
+use Rattle.sf_groebner.proofs.PlaceOrder.{Less-not_Greater, not_greater_itself, not_greater_less}
 use Rattle.sf_groebner.proofs.TopCoefficients.{Begins, begins_at, coefficient_at-top, row_combination-at_most}
 
 -- induction over the places with positions below n
@@ -30,20 +29,6 @@ place_induction n P step k = down k (place_acc n k)
   where
     down : (k : Place) → Acc (IsBelow n) k → P k
     down k (Acc.intro l h) = step l (λ j below. down j (h j below))
-
--- what is not greater than k is less than what k is less than
-pub not_greater_less : (j k b : Place) → place_cmp j k ≢ Greater → place_cmp k b ≡ Less → place_cmp j b ≡ Less
-not_greater_less j k b most less =
-    ordering_cases (place_cmp j k)
-    (λ below. place_cmp_total.trans j k b below less)
-    (λ equal. subst (λ l. place_cmp l b ≡ Less) (sym (place_cmp-Equal j k equal)) less)
-    (λ greater. absurd (most greater))
-
-not_greater : (o : Ordering) → o ≡ Less → o ≢ Greater
-not_greater o less greater = cc
-
-not_greater_itself : (k : Place) → place_cmp k k ≢ Greater
-not_greater_itself k greater = let e = tied_itself place_cmp_total k in cc
 
 -- a place of the list whose image no other's exceeds, unless the list is empty
 pub greatest : (P In : Place → Type 0) (lead : ℕ → Place) (c : List (Term Place)) → EachPlace (λ k. In k × P k) c
@@ -54,7 +39,7 @@ greatest P In lead (t ∷ ts) h =
     (λ (none : ts ≡ []). inr (t.at, h.0.0, h.0.1, ((h.0.0, not_greater_itself (image lead t.at)), subst (EachPlace (IsAtMost In lead (image lead t.at))) (sym none) tt)))
     (λ (found : (r : Place) × In r × P r × EachPlace (IsAtMost In lead (image lead r)) ts).
     ordering_cases (place_cmp (image lead t.at) (image lead found.0))
-    (λ less. inr (found.0, found.1, found.2, ((h.0.0, not_greater _ less), found.3)))
+    (λ less. inr (found.0, found.1, found.2, ((h.0.0, Less-not_Greater _ less), found.3)))
     (λ equal. inr (found.0, found.1, found.2, ((h.0.0, λ greater. cc), found.3)))
     (λ greater.
     let less : place_cmp (image lead found.0) (image lead t.at) ≡ Less = place_cmp_total.antisymm (image lead found.0) (image lead t.at) ∙ ap ordering_reverse greater in
@@ -64,7 +49,7 @@ greatest P In lead (t ∷ ts) h =
       h.0.1,
       (
         (h.0.0, not_greater_itself (image lead t.at)),
-        AllByRecursion-weaken _ _ (λ u k. (k.0, not_greater _ (not_greater_less (image lead u.at) (image lead found.0) (image lead t.at) k.1 less))) ts found.3,
+        AllByRecursion-weaken _ _ (λ u k. (k.0, Less-not_Greater _ (not_greater_less (image lead u.at) (image lead found.0) (image lead t.at) k.1 less))) ts found.3,
       ),
     )))
     (greatest P In lead ts h.1)

@@ -1,8 +1,7 @@
 -- The coefficient of a combination at the greatest image of its places: the sum of the coefficients that have that image.
 use Rattle.std.proofs.Common.{◌≡◌, ◌≢◌, ℕ, suc, ◌%◌, List, [], ◌∷◌, if◌then◌else◌, Bool, true, false, map, refl, sym, ◌∙◌, ap, subst}
 use Rattle.std.proofs.Math.Nat.{zero-mod}
-use Rattle.std.specs.declared.cmp.Ordering.{Ordering}
-use Rattle.std.specs.declared.cmp.Ordering.TheVariants.{Less, Greater}
+use Rattle.std.specs.declared.cmp.Ordering.TheVariants.{Greater}
 use Rattle.std.specs.Ordering.{is_eq}
 use Rattle.sf_algebra.specs.MatrixOperations.{row_at, row_combination}
 use Rattle.sf_algebra.specs.Multiples.{place_product, term_product, combination_terms, combination}
@@ -22,20 +21,13 @@ use Rattle.sf_algebra.proofs.Residues.{product_mod-one, sum_mod-first, sum_mod-z
 use Rattle.sf_algebra.proofs.Totals.{total-cons, total-nil, total-reduced}
 use Rattle.sf_groebner.specs.Criterion.{image}
 use Rattle.sf_groebner.proofs.Images.{HasLeads, IsAtMost, top_part}
+use Rattle.sf_groebner.proofs.PlaceOrder.{Less-not_Greater, less_not_greater}
 
 -- a list begins at b, with some coefficient
 pub record Begins (b : Place) (v : List (Term Place)) : Type 0 where
   pub coefficient : ℕ
   pub tail : List (Term Place)
   pub shape : v ≡ record { at = b; coefficient = coefficient } ∷ tail
-
--- what is less than k is less than what k is not greater than
-pub less_not_greater : (j k b : Place) → place_cmp j k ≡ Less → place_cmp k b ≢ Greater → place_cmp j b ≡ Less
-less_not_greater j k b less most =
-    ordering_cases (place_cmp k b)
-    (λ below. place_cmp_total.trans j k b less below)
-    (λ equal. subst (λ l. place_cmp j l ≡ Less) (place_cmp-Equal k b equal) less)
-    (λ greater. absurd (most greater))
 
 -- a canonical list no place of which is greater than b, and which has a coefficient at b, begins there
 pub begins_at : (p : ℕ) (b : Place) (v : List (Term Place)) (x : ℕ) → IsCanonical place_cmp p v → EachPlace (λ k. place_cmp k b ≢ Greater) v → coefficient_at place_cmp p b v ≡ suc x → Begins b v
@@ -78,11 +70,8 @@ module _ (p n : ℕ) (In : Place → Type 0) (rows : List Vector) (lead : ℕ �
       (AllByRecursion-weaken _ _
       (λ t k.
       subst (EachPlace (λ l. place_cmp (place_product t.at.monomial l) b ≢ Greater)) (sym (leads.shape t.at k.0))
-      (k.1, AllByRecursion-weaken _ _ (λ u less greater. not_both _ (less_not_greater _ _ b (place_cmp-place_product t.at.monomial u.at (lead t.at.position) ∙ less) k.1) greater) (leads.tail t.at.position) (leads.low t.at k.0)))
+      (k.1, AllByRecursion-weaken _ _ (λ u less greater. Less-not_Greater _ (less_not_greater _ _ b (place_cmp-place_product t.at.monomial u.at (lead t.at.position) ∙ less) k.1) greater) (leads.tail t.at.position) (leads.low t.at k.0)))
       c h)
-    where
-      not_both : (o : Ordering) → o ≡ Less → o ≢ Greater
-      not_both o less greater = cc
 
   share-top : (t : Term Place) → IsAtMost In lead b t.at → share place_product p (λ k. k.monomial) (λ k. row_at rows k.position) (part_at place_cmp b) t % p ≡ top_part lead b t % p
   share-top t h =
