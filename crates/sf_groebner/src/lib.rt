@@ -5,12 +5,13 @@
 #![tactic(auto)]
 
 mod bases;
+mod criterion;
 mod graph;
 mod lift;
 mod stack;
+
 pub use bases::reduced_bases_are_unique;
+pub use criterion::{pairs_decide_bases, pairs_give_syzygies};
 pub use graph::graph_parts;
 pub use lift::lifts_are_unique;
 pub use stack::stack_parts;
-mod criterion;
-pub use criterion::{pairs_decide_bases, pairs_give_syzygies};
