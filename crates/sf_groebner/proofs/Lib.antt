@@ -45,3 +45,5 @@ pub mod LeadDivisors
 pub mod Antichains
 pub mod Completions
 pub mod Tails
+pub mod SortedRows
+pub mod ReducedExistence
