@@ -47,3 +47,6 @@ pub mod Completions
 pub mod Tails
 pub mod SortedRows
 pub mod ReducedExistence
+pub mod MinimalGenerators
+pub mod Presentations
+pub mod Homology

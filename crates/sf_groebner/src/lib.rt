@@ -7,9 +7,11 @@
 mod bases;
 mod graph;
 mod lift;
+mod presentation;
 mod stack;
 
 pub use bases::reduced_bases_are_unique;
 pub use graph::graph_parts;
 pub use lift::lifts_are_unique;
+pub use presentation::presentations_are_unique;
 pub use stack::stack_parts;
