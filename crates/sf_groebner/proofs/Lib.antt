@@ -50,3 +50,5 @@ pub mod ReducedExistence
 pub mod MinimalGenerators
 pub mod Presentations
 pub mod Homology
+pub mod SumsAndMultiples
+pub mod KeptGenerators
