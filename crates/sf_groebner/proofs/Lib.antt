@@ -51,3 +51,8 @@ pub mod Completions
 pub mod Tails
 pub mod SortedRows
 pub mod ReducedExistence
+pub mod MinimalGenerators
+pub mod Presentations
+pub mod Homology
+pub mod SumsAndMultiples
+pub mod KeptGenerators
