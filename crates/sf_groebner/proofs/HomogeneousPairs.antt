@@ -47,9 +47,11 @@ module _ (p : ℕ) (prime : IsPrime p) (target : List ℤ) (rows : List Vector) 
   pub pair_terms-homogeneous : IsHomogeneous (degrees_of rows) pair_degree (pair_terms p (lead_at rows) i j)
   pair_terms-homogeneous = (
     IsTermOfDegree-step p target rows monic i i_in pair_degree pair_lcm divides_first (lead_inside, refl),
-    (IsTermOfDegree-step p target rows monic j j_in pair_degree (record { at = lcm_place (lead_at rows) j i; coefficient = 1 }) divides_second
-    (subst (λ (k : Place). IsTermOfDegree target pair_degree (record { at = k; coefficient = 1 })) (sym same_lcm) (lead_inside, refl)),
-    tt),
+    (
+      IsTermOfDegree-step p target rows monic j j_in pair_degree (record { at = lcm_place (lead_at rows) j i; coefficient = 1 }) divides_second
+          (subst (λ (k : Place). IsTermOfDegree target pair_degree (record { at = k; coefficient = 1 })) (sym same_lcm) (lead_inside, refl)),
+      tt,
+    ),
   )
 
   -- a division without a rest reduces the pair to zero

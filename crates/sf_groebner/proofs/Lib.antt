@@ -55,3 +55,8 @@ pub mod SortedRows
 pub mod ReducedExistence
 pub mod PairSyzygies
 pub mod FewerSyzygies
+pub mod MinimalGenerators
+pub mod Presentations
+pub mod Homology
+pub mod SumsAndMultiples
+pub mod KeptGenerators

@@ -79,9 +79,9 @@ module _ (p : ℕ) (target : List ℤ) (rows : List Vector) (monic : AllByRecurs
       } in (
         map (term_product place_product p s) (tail_of (row_at rows i)),
         row_combination-one p (omega (arith, prime.above_one)) rows (step rows i t)
-        ∙ multiple-map place_keys p s prime nonzero (row_at rows i) row.vector.canonical
-        ∙ ap (map (term_product place_product p s)) shape
-        ∙ ap (λ u. u ∷ map (term_product place_product p s) (tail_of (row_at rows i))) first,
+            ∙ multiple-map place_keys p s prime nonzero (row_at rows i) row.vector.canonical
+            ∙ ap (map (term_product place_product p s)) shape
+            ∙ ap (λ u. u ∷ map (term_product place_product p s) (tail_of (row_at rows i))) first,
       )
 
   -- it has the degree of t

@@ -119,7 +119,7 @@ module _ (p : ℕ) (prime : IsPrime p) (target : List ℤ) (N : Vector → Type 
       ap (λ ts. add place_cmp p ts (negative p multiples.terms)) shape ∙ add-first place_keys p positive lead us (negative p multiples.terms) e.rest canonical back in (
         record { degree = v.degree; terms = lead ∷ e.rest },
         subst N (λ i. record { degree = v.degree; terms = terms i })
-        (submodule.module_like.differences v multiples h (submodule.combinations rows (AllByRecursion-weaken _ _ (λ w k. k.0) rows monic) v.degree e.quotients e.homogeneous) refl),
+            (submodule.module_like.differences v multiples h (submodule.combinations rows (AllByRecursion-weaken _ _ (λ w k. k.0) rows monic) v.degree e.quotients e.homogeneous) refl),
         record { tail = e.rest; terms = refl; free = e.free },
         refl,
       )

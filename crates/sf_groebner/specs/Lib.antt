@@ -13,3 +13,5 @@ pub mod Cuts
 pub mod CutLaws
 pub mod LiftLaws
 pub mod CriterionLaws
+pub mod PresentationLaws
+pub mod MinimalLaws

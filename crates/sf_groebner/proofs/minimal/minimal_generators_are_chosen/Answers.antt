@@ -1,0 +1,11 @@
+use Rattle.sf_groebner.specs.Presentations.{IsZero}
+use Rattle.sf_groebner.specs.Spans.{InSpan}
+use Rattle.sf_groebner.proofs.KeptGenerators.{AreKept-chosen}
+use Rattle.sf_groebner.proofs.SumsAndMultiples.{span_closed, zero_closed}
+use Rattle.sf_groebner.proofs.minimal.minimal_generators_are_chosen.Goals as goal
+
+pub returns : goal.returns
+returns c = record {
+  span = λ base positive matrix. AreKept-chosen base.modulus base.target (InSpan base) positive (span_closed base positive);
+  zero = λ p positive target. AreKept-chosen p target IsZero positive (zero_closed p positive);
+}

@@ -1,0 +1,38 @@
+-- What holds of presentations: each is determined by its matrices. (Weibel, "An Introduction to Homological Algebra", sections 1.1
+-- and 2.2.)
+use Rattle.std.specs.Prelude.{◌≡◌, ◌<◌, List, length}
+use Rattle.sf_algebra.specs.Matrices.{Matrix, IsMatrix}
+use Rattle.sf_algebra.specs.MatrixOperations.{stacked}
+use Rattle.sf_groebner.specs.Homology.{IsHomology, IsKernel, IsImage, IsCokernel}
+use Rattle.sf_groebner.specs.Resolutions.{IsResolution}
+
+-- a place of a complex has at most one homology
+abbrev pub HasOneHomology : Type 0
+HasOneHomology =
+    (arriving here out beyond : Matrix) → 0 < here.modulus → arriving.modulus ≡ here.modulus → out.modulus ≡ here.modulus → beyond.modulus ≡ here.modulus
+    → IsMatrix (stacked arriving here) → IsMatrix beyond → (g r h s : Matrix) → IsHomology arriving here out beyond g r → IsHomology arriving here out beyond h s
+    → (g ≡ h) × (r ≡ s)
+
+-- a map has at most one kernel
+abbrev pub HasOneKernel : Type 0
+HasOneKernel =
+    (source target map : Matrix) → 0 < source.modulus → map.modulus ≡ source.modulus → target.modulus ≡ source.modulus
+    → IsMatrix source → IsMatrix target → (g r h s : Matrix) → IsKernel source target map g r → IsKernel source target map h s → (g ≡ h) × (r ≡ s)
+
+-- one image
+abbrev pub HasOneImage : Type 0
+HasOneImage =
+    (target map : Matrix) → 0 < target.modulus → map.modulus ≡ target.modulus → IsMatrix (stacked map target) → IsMatrix target
+    → (g r h s : Matrix) → IsImage target map g r → IsImage target map h s → (g ≡ h) × (r ≡ s)
+
+-- and one cokernel
+abbrev pub HasOneCokernel : Type 0
+HasOneCokernel =
+    (target map : Matrix) → 0 < target.modulus → map.modulus ≡ target.modulus → IsMatrix (stacked map target)
+    → (g r h s : Matrix) → IsCokernel target map g r → IsCokernel target map h s → (g ≡ h) × (r ≡ s)
+
+-- a presented module has at most one resolution of each length
+abbrev pub HasOneResolution : Type 0
+HasOneResolution =
+    (relations : Matrix) → 0 < relations.modulus → IsMatrix relations → (a b : List Matrix) → length a ≡ length b → IsResolution relations a → IsResolution relations b
+    → a ≡ b
