@@ -60,3 +60,4 @@ pub mod Presentations
 pub mod Homology
 pub mod SumsAndMultiples
 pub mod KeptGenerators
+pub mod PendingDegrees
