@@ -56,3 +56,6 @@ pub mod Presentations
 pub mod Homology
 pub mod SumsAndMultiples
 pub mod KeptGenerators
+pub mod SpanCombinations
+pub mod GeneratingBases
+pub mod ReducedCoordinates
