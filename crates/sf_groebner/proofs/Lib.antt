@@ -59,3 +59,4 @@ pub mod KeptGenerators
 pub mod SpanCombinations
 pub mod GeneratingBases
 pub mod ReducedCoordinates
+pub mod LiftPropositions

@@ -1,12 +1,12 @@
 -- Spans, relations and syzygies are closed under combinations.
-use Rattle.std.proofs.Common.{◌≡◌, ℕ, ◌<◌, List, [], ◌∷◌, map, refl, sym, ◌∙◌, ap, subst, ℤ}
+use Rattle.std.proofs.Common.{◌≡◌, ℕ, ◌<◌, List, [], ◌∷◌, refl, sym, ◌∙◌, ap, subst, ℤ}
 use Rattle.std.specs.List.{AllByRecursion}
 use Rattle.sf_algebra.specs.Matrices.{Matrix, row_degrees, IsMatrix}
 use Rattle.sf_algebra.specs.MatrixOperations.{row_at, row_combination}
 use Rattle.sf_algebra.specs.Multiples.{negative}
 use Rattle.sf_algebra.specs.Sums.{normal, add}
 use Rattle.sf_algebra.specs.Terms.{Term}
-use Rattle.sf_algebra.specs.Vectors.{Place, Vector, place_cmp, IsHomogeneous, IsVector}
+use Rattle.sf_algebra.specs.Vectors.{Place, Vector, place_cmp, IsHomogeneous}
 use Rattle.sf_algebra.proofs.Degrees.{degrees_of, IsHomogeneous-normal, IsHomogeneous-row_combination}
 use Rattle.sf_algebra.proofs.Keys.{place_keys}
 use Rattle.sf_algebra.proofs.Lists.{AllByRecursion-weaken}
@@ -19,13 +19,12 @@ use Rattle.sf_algebra.proofs.SameTotals.{SameTotals-normal, combination-SameTota
 use Rattle.sf_algebra.proofs.Stacks.{AllByRecursion-map, degrees-with_terms}
 use Rattle.sf_algebra.proofs.Sums.{add-nil_first}
 use Rattle.sf_groebner.specs.MinimalGenerators.{matrix_of}
-use Rattle.sf_groebner.specs.Presentations.{IsZero, IsRelation}
-use Rattle.sf_groebner.specs.Spans.{combined, InSpan, IsSyzygy}
+use Rattle.sf_groebner.specs.Presentations.{IsRelation}
+use Rattle.sf_groebner.specs.Spans.{combined, InSpan}
 use Rattle.sf_groebner.proofs.Generators.{IsCombination, IsCombination-trans}
-use Rattle.sf_groebner.proofs.Modules.{difference, IsModuleLike}
-use Rattle.sf_groebner.proofs.Spans.{span_module, relation_module, syzygy_module}
+use Rattle.sf_groebner.proofs.Spans.{span_module, relation_module}
 use Rattle.sf_groebner.proofs.Submodules.{IsSubmodule}
-use Rattle.sf_groebner.proofs.SumsAndMultiples.{HasSumsAndMultiples, zero_closed}
+use Rattle.sf_groebner.proofs.SumsAndMultiples.{HasSumsAndMultiples}
 
 -- the coefficients may be any list that means them
 pub row_combination-normal : (p : ℕ) → 0 < p → (rows : List Vector) (c : List (Term Place)) → row_combination p rows (normal place_cmp p c) ≡ row_combination p rows c
@@ -94,3 +93,8 @@ module _ (p : ℕ) (positive : 0 < p) (target : List ℤ) (N : Vector → Type 0
 
   pub submodule_closed : HasSumsAndMultiples p N
   submodule_closed = record { sums = sum-inside; multiples = λ v c h k. submodule.combinations (v ∷ []) (h, tt) c.degree c.terms k.homogeneous }
+
+-- a span, with the modulus and the degrees as they are known
+pub span_submodule_of : (p : ℕ) → 0 < p → (target : List ℤ) (m : Matrix) → m.modulus ≡ p → m.target ≡ target → IsMatrix m → IsSubmodule p target (InSpan m)
+span_submodule_of p positive target m modulus same matrix =
+    subst (λ ds. IsSubmodule p ds (InSpan m)) same (subst (λ q. IsSubmodule q m.target (InSpan m)) modulus (span_submodule m (subst (λ q. 0 < q) (sym modulus) positive) matrix))

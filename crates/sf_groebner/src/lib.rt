@@ -16,6 +16,6 @@ pub use bases::reduced_bases_are_unique;
 pub use criterion::{pairs_decide_bases, pairs_give_syzygies};
 pub use graph::graph_parts;
 pub use lift::{coordinates_are_unique, lifts_are_unique};
-pub use minimal::minimal_generators_are_chosen;
+pub use minimal::{minimal_generators_are_chosen, minimal_generators_are_unique};
 pub use presentation::presentations_are_unique;
 pub use stack::stack_parts;
