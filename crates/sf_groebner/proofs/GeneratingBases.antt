@@ -1,27 +1,23 @@
 -- A reduced basis generates its module; so do minimal generators, modulo the part modulo which they are taken.
 use Rattle.std.proofs.Common.{◌≡◌, inl, inr, ℕ, ◌<◌, List, [], ◌∷◌, ◌++◌, refl, sym, ◌∙◌, ap, subst, ℤ, arith, append-nil, append_assoc}
-use Rattle.std.specs.List.{AllByRecursion}
 use Rattle.sf_algebra.specs.MatrixOperations.{row_combination}
 use Rattle.sf_algebra.specs.Primes.{IsPrime}
-use Rattle.sf_algebra.specs.Sums.{normal, add}
-use Rattle.sf_algebra.specs.Terms.{Term}
-use Rattle.sf_algebra.specs.Vectors.{Place, Vector, place_cmp, IsVector}
+use Rattle.sf_algebra.specs.Sums.{add}
+use Rattle.sf_algebra.specs.Vectors.{Vector, place_cmp}
 use Rattle.sf_algebra.proofs.Orders.{place_cmp_linear}
 use Rattle.sf_algebra.proofs.Rows.{IsCanonical-row_combination}
 use Rattle.sf_algebra.proofs.Sums.{add-nil_first}
 use Rattle.sf_groebner.specs.MinimalGenerators.{IsInSum, matrix_of, AreKept, AreMinimal}
-use Rattle.sf_groebner.specs.Presentations.{IsZero}
-use Rattle.sf_groebner.specs.ReducedBases.{HasDividedLead, IsMonic, IsReducedBasis}
-use Rattle.sf_groebner.specs.Spans.{InSpan}
+use Rattle.sf_groebner.specs.ReducedBases.{IsMonic, IsReducedBasis}
 use Rattle.sf_groebner.proofs.Divisions.{Division, divide}
 use Rattle.sf_groebner.proofs.Generators.{IsCombination}
 use Rattle.sf_groebner.proofs.Items.{AllByRecursion-both}
-use Rattle.sf_groebner.proofs.KeptGenerators.{IsSumAt, IsSumAt-to, IsSumAt-from, HasSameSums, left_out, taken_in}
+use Rattle.sf_groebner.proofs.KeptGenerators.{IsSumAt-to, IsSumAt-from, HasSameSums, left_out, taken_in}
 use Rattle.sf_groebner.proofs.MonicVectors.{IsMonicVector}
 use Rattle.sf_groebner.proofs.Remainders.{IsReducedBy-none}
 use Rattle.sf_groebner.proofs.SpanCombinations.{InSpan-IsCombination, IsCombination-InSpan, zero-inside, submodule_closed}
 use Rattle.sf_groebner.proofs.Submodules.{IsSubmodule, rest-inside}
-use Rattle.sf_groebner.proofs.SumsAndMultiples.{HasSumsAndMultiples, zero_closed}
+use Rattle.sf_groebner.proofs.SumsAndMultiples.{HasSumsAndMultiples}
 
 module _ (p : ℕ) (prime : IsPrime p) (target : List ℤ) (N : Vector → Type 0) (submodule : IsSubmodule p target N) where
   -- the rest of a division by the basis is 0

@@ -1,13 +1,12 @@
 -- The relations of a presentation span all relations, so the coordinates that a lift gives are reduced by them.
-use Rattle.std.proofs.Common.{◌≡◌, ℕ, ◌<◌, List, [], ◌∷◌, length, refl, sym, ◌∙◌, ap, subst, ℤ, arith}
-use Rattle.std.specs.List.{AllByRecursion}
+use Rattle.std.proofs.Common.{◌≡◌, ℕ, ◌<◌, List, [], length, refl, sym, ◌∙◌, ap, subst, ℤ, arith}
 use Rattle.sf_algebra.specs.Matrices.{Matrix, row_degrees, IsMatrix}
-use Rattle.sf_algebra.specs.MatrixOperations.{row_at, row_combination, stacked}
+use Rattle.sf_algebra.specs.MatrixOperations.{stacked}
 use Rattle.sf_algebra.specs.Multiples.{place_product, combination, negative}
 use Rattle.sf_algebra.specs.Primes.{IsPrime}
 use Rattle.sf_algebra.specs.Sums.{add}
-use Rattle.sf_algebra.specs.Terms.{Term, IsCanonical}
-use Rattle.sf_algebra.specs.Vectors.{Place, Vector, place_cmp, IsVector}
+use Rattle.sf_algebra.specs.Terms.{IsCanonical}
+use Rattle.sf_algebra.specs.Vectors.{Vector, place_cmp, IsVector}
 use Rattle.sf_algebra.proofs.Keys.{place_keys}
 use Rattle.sf_algebra.proofs.MatrixRows.{row_at-each}
 use Rattle.sf_algebra.proofs.Negatives.{add-negative}
@@ -19,12 +18,12 @@ use Rattle.sf_groebner.specs.Cuts.{part_of, first_parts, IsFirstBlock}
 use Rattle.sf_groebner.specs.Lifts.{IsLift}
 use Rattle.sf_groebner.specs.MinimalGenerators.{IsInSum, matrix_of, AreMinimal}
 use Rattle.sf_groebner.specs.Presentations.{IsZero, IsRelation, IsReducedByRelations}
-use Rattle.sf_groebner.specs.ReducedBases.{IsReducedBy, IsReducedBasis}
+use Rattle.sf_groebner.specs.ReducedBases.{IsReducedBy}
 use Rattle.sf_groebner.specs.Spans.{InSpan, IsSyzygy}
 use Rattle.sf_groebner.proofs.FirstParts.{reduced-first_parts}
 use Rattle.sf_groebner.proofs.GeneratingBases.{AreMinimal-generate, AreMinimal-inside}
 use Rattle.sf_groebner.proofs.Lifts.{reduced-first_block}
-use Rattle.sf_groebner.proofs.Modules.{difference, IsModuleLike}
+use Rattle.sf_groebner.proofs.Modules.{difference}
 use Rattle.sf_groebner.proofs.Relations.{IsRelation-blocks}
 use Rattle.sf_groebner.proofs.Remainders.{same_reduced}
 use Rattle.sf_groebner.proofs.SameModules.{IsReducedBasis-same}
