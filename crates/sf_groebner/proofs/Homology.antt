@@ -12,13 +12,13 @@ use Rattle.sf_groebner.proofs.UniqueBases.{unique_reduced}
 
 module _ (p : ℕ) (positive : 0 < p) where
   -- a span, with the modulus as it is known
-  span_of : (m : Matrix) → m.modulus ≡ p → IsMatrix m → IsModuleLike p m.target (InSpan m)
+  pub span_of : (m : Matrix) → m.modulus ≡ p → IsMatrix m → IsModuleLike p m.target (InSpan m)
   span_of m same matrix = subst (λ q. IsModuleLike q m.target (InSpan m)) same (span_module m (subst (λ q. 0 < q) (sym same) positive) matrix)
 
-  one_span_basis : (m : Matrix) → m.modulus ≡ p → IsMatrix m → HasOneBasis (InSpan m)
+  pub one_span_basis : (m : Matrix) → m.modulus ≡ p → IsMatrix m → HasOneBasis (InSpan m)
   one_span_basis m same matrix = unique_reduced p positive m.target (InSpan m) (span_of m same matrix)
 
-  one_cycle_basis : (out beyond : Matrix) → out.modulus ≡ p → beyond.modulus ≡ p → IsMatrix beyond → HasOneBasis (IsCycle out beyond)
+  pub one_cycle_basis : (out beyond : Matrix) → out.modulus ≡ p → beyond.modulus ≡ p → IsMatrix beyond → HasOneBasis (IsCycle out beyond)
   one_cycle_basis out beyond first second matrix =
       let here = subst (λ q. 0 < q) (sym first) positive in
       unique_reduced out.modulus here (row_degrees out) (IsCycle out beyond)

@@ -29,7 +29,7 @@ module _ (p : ℕ) (target : List ℤ) (B : Vector → Type 0) where
     pub vector : IsVector p (degrees_of rows) (record { degree = d; terms = coefficients })
     pub sum : add place_cmp p first (row_combination p rows coefficients) ≡ ts
 
-  IsSumAt-from : (rows : List Vector) (v : Vector) → IsInSum (matrix_of p target rows) B v → IsSumAt rows v.degree v.terms
+  pub IsSumAt-from : (rows : List Vector) (v : Vector) → IsInSum (matrix_of p target rows) B v → IsSumAt rows v.degree v.terms
   IsSumAt-from rows v h =
       let c = (h.in_span).0 in
       let degree : c.degree ≡ v.degree = ap (λ x. x.degree) (h.in_span).2 ∙ h.second_degree in
@@ -41,7 +41,7 @@ module _ (p : ℕ) (target : List ℤ) (B : Vector → Type 0) where
         sum = ap (λ x. add place_cmp p h.first.terms x.terms) (h.in_span).2 ∙ h.sum;
       }
 
-  IsSumAt-to : (rows : List Vector) (v : Vector) → IsSumAt rows v.degree v.terms → IsInSum (matrix_of p target rows) B v
+  pub IsSumAt-to : (rows : List Vector) (v : Vector) → IsSumAt rows v.degree v.terms → IsInSum (matrix_of p target rows) B v
   IsSumAt-to rows v h = record {
     first = record { degree = v.degree; terms = h.first };
     second = record { degree = v.degree; terms = row_combination p rows h.coefficients };
@@ -186,13 +186,13 @@ module _ (p : ℕ) (target : List ℤ) (B : Vector → Type 0) where
       back : (rows others : List Vector) → HasSameSums rows others → HasSameSums others rows
       back rows others h = record { to = h.from; from = h.to }
 
-      left_out : (rows others : List Vector) (v : Vector) → HasSameSums rows others → IsInSum (matrix_of p target rows) B v → HasSameSums (rows ++ v ∷ []) others
+      pub left_out : (rows others : List Vector) (v : Vector) → HasSameSums rows others → IsInSum (matrix_of p target rows) B v → HasSameSums (rows ++ v ∷ []) others
       left_out rows others v h k = record {
         to = λ d ts s. h.to d ts (IsSumAt-absorb rows v (IsSumAt-from rows v k) d ts s);
         from = λ d ts s. IsSumAt-more rows v d ts (h.from d ts s);
       }
 
-      taken_in : (rows others : List Vector) (v : Vector) → HasSameSums rows others → HasSameSums (rows ++ v ∷ []) (others ++ v ∷ [])
+      pub taken_in : (rows others : List Vector) (v : Vector) → HasSameSums rows others → HasSameSums (rows ++ v ∷ []) (others ++ v ∷ [])
       taken_in rows others v h = record { to = IsSumAt-both rows others v h.to; from = IsSumAt-both others rows v h.from }
 
       chosen_from_kept : (earlier before vs kept : List Vector) → HasSameSums earlier before → AreKept p target B earlier vs kept → AreChosen p target B before vs kept

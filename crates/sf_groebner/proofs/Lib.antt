@@ -61,3 +61,7 @@ pub mod Homology
 pub mod SumsAndMultiples
 pub mod KeptGenerators
 pub mod PendingDegrees
+pub mod SpanCombinations
+pub mod GeneratingBases
+pub mod ReducedCoordinates
+pub mod LiftPropositions

@@ -1,11 +1,17 @@
 -- What holds of lifts and of coordinates. (Textbook; the choice is this project's own.)
-use Rattle.std.specs.Prelude.{◌≡◌, ◌<◌, List, length}
-use Rattle.sf_algebra.specs.Matrices.{Matrix}
+use Rattle.std.specs.Prelude.{◌≡◌, ◌↔◌, ◌<◌, List, length}
+use Rattle.sf_algebra.specs.Matrices.{Matrix, row_degrees, IsMatrix}
 use Rattle.sf_algebra.specs.MatrixOperations.{part_terms, stacked}
-use Rattle.sf_algebra.specs.Vectors.{Vector}
-use Rattle.sf_groebner.specs.Cuts.{IsFirstBlock}
+use Rattle.sf_algebra.specs.Multiples.{negative}
+use Rattle.sf_algebra.specs.Primes.{IsPrime}
+use Rattle.sf_algebra.specs.Sums.{add}
+use Rattle.sf_algebra.specs.Vectors.{Vector, place_cmp, IsVector}
+use Rattle.sf_groebner.specs.Cuts.{part_of, IsFirstBlock}
 use Rattle.sf_groebner.specs.Lifts.{IsLift}
+use Rattle.sf_groebner.specs.MinimalGenerators.{AreMinimal}
+use Rattle.sf_groebner.specs.Presentations.{IsZero, IsRelation, IsReducedByRelations}
 use Rattle.sf_groebner.specs.ReducedBases.{IsReducedBy, IsReducedBasis}
+use Rattle.sf_groebner.specs.Spans.{InSpan}
 
 -- a vector has at most one lift
 abbrev pub HasOneLift : Type 0
@@ -16,3 +22,26 @@ abbrev pub HasReducedFirstBlocks : Type 0
 HasReducedFirstBlocks =
     (a b : Matrix) → 0 < a.modulus → (v c : Vector) → IsLift (stacked a b) v c → (basis : List Vector) → IsReducedBasis (IsFirstBlock a b) basis
     → IsReducedBy basis (part_terms 0 (length a.rows) c.terms)
+
+-- relations that are minimal modulo 0 span all relations
+abbrev pub HasSpanningRelations : Type 0
+HasSpanningRelations =
+    (generators base relations : Matrix) → IsPrime generators.modulus → generators.modulus ≡ base.modulus → IsMatrix base
+    → relations.modulus ≡ generators.modulus → relations.target ≡ row_degrees generators
+    → AreMinimal generators.modulus (row_degrees generators) (IsRelation generators (InSpan base)) IsZero relations.rows
+    → (c : Vector) → IsRelation generators (InSpan base) c ↔ InSpan relations c
+
+-- the first block of a lift over generators and base, the coordinates, is reduced by such relations
+abbrev pub HasReducedCoordinates : Type 0
+HasReducedCoordinates =
+    (generators base relations : Matrix) → IsPrime generators.modulus → generators.modulus ≡ base.modulus → IsMatrix base
+    → relations.modulus ≡ generators.modulus → relations.target ≡ row_degrees generators
+    → AreMinimal generators.modulus (row_degrees generators) (IsRelation generators (InSpan base)) IsZero relations.rows
+    → (v c : Vector) → IsLift (stacked generators base) v c → IsReducedByRelations relations (part_of 0 (length generators.rows) c)
+
+-- vectors of one degree that are reduced by relations and differ by one of their span are equal
+abbrev pub HasOneReducedVector : Type 0
+HasOneReducedVector =
+    (m : Matrix) → 0 < m.modulus → IsMatrix m → (v w : Vector) → IsVector m.modulus m.target v → IsVector m.modulus m.target w → v.degree ≡ w.degree
+    → InSpan m (record { degree = v.degree; terms = add place_cmp m.modulus v.terms (negative m.modulus w.terms) })
+    → IsReducedByRelations m v → IsReducedByRelations m w → v ≡ w

@@ -1,0 +1,100 @@
+-- Spans, relations and syzygies are closed under combinations.
+use Rattle.std.proofs.Common.{◌≡◌, ℕ, ◌<◌, List, [], ◌∷◌, refl, sym, ◌∙◌, ap, subst, ℤ}
+use Rattle.std.specs.List.{AllByRecursion}
+use Rattle.sf_algebra.specs.Matrices.{Matrix, row_degrees, IsMatrix}
+use Rattle.sf_algebra.specs.MatrixOperations.{row_at, row_combination}
+use Rattle.sf_algebra.specs.Multiples.{negative}
+use Rattle.sf_algebra.specs.Sums.{normal, add}
+use Rattle.sf_algebra.specs.Terms.{Term}
+use Rattle.sf_algebra.specs.Vectors.{Place, Vector, place_cmp, IsHomogeneous}
+use Rattle.sf_algebra.proofs.Degrees.{degrees_of, IsHomogeneous-normal, IsHomogeneous-row_combination}
+use Rattle.sf_algebra.proofs.Keys.{place_keys}
+use Rattle.sf_algebra.proofs.Lists.{AllByRecursion-weaken}
+use Rattle.sf_algebra.proofs.MatrixRows.{with_terms}
+use Rattle.sf_algebra.proofs.Negatives.{negative-negative, IsCanonical-negative}
+use Rattle.sf_algebra.proofs.Normal.{IsCanonical-normal}
+use Rattle.sf_algebra.proofs.Orders.{place_cmp_linear}
+use Rattle.sf_algebra.proofs.Rows.{IsCanonical-row_combination, row_combination-matrix_product, row_combination-nil}
+use Rattle.sf_algebra.proofs.SameTotals.{SameTotals-normal, combination-SameTotals}
+use Rattle.sf_algebra.proofs.Stacks.{AllByRecursion-map, degrees-with_terms}
+use Rattle.sf_algebra.proofs.Sums.{add-nil_first}
+use Rattle.sf_groebner.specs.MinimalGenerators.{matrix_of}
+use Rattle.sf_groebner.specs.Presentations.{IsRelation}
+use Rattle.sf_groebner.specs.Spans.{combined, InSpan}
+use Rattle.sf_groebner.proofs.Generators.{IsCombination, IsCombination-trans}
+use Rattle.sf_groebner.proofs.Spans.{span_module, relation_module}
+use Rattle.sf_groebner.proofs.Submodules.{IsSubmodule}
+use Rattle.sf_groebner.proofs.SumsAndMultiples.{HasSumsAndMultiples}
+
+-- the coefficients may be any list that means them
+pub row_combination-normal : (p : ℕ) → 0 < p → (rows : List Vector) (c : List (Term Place)) → row_combination p rows (normal place_cmp p c) ≡ row_combination p rows c
+row_combination-normal p positive rows c =
+    combination-SameTotals place_keys p positive (λ k. k.monomial) (λ k. row_at rows k.position) (SameTotals-normal place_cmp place_cmp_linear p c)
+
+module _ (m : Matrix) (positive : 0 < m.modulus) where
+  pub IsCombination-InSpan : (v : Vector) → InSpan m v → IsCombination m.modulus m.rows v
+  IsCombination-InSpan v h = record {
+    coefficients = (h.0).terms;
+    homogeneous = subst (λ d. IsHomogeneous (row_degrees m) d (h.0).terms) (ap (λ x. x.degree) h.2) (h.1).homogeneous;
+    value = ap (λ x. x.terms) h.2;
+  }
+
+  pub InSpan-IsCombination : (v : Vector) → IsCombination m.modulus m.rows v → InSpan m v
+  InSpan-IsCombination v h = (
+    record { degree = v.degree; terms = normal place_cmp m.modulus h.coefficients },
+    record {
+      canonical = IsCanonical-normal place_cmp place_cmp_linear m.modulus positive h.coefficients;
+      homogeneous = IsHomogeneous-normal (row_degrees m) m.modulus v.degree h.coefficients h.homogeneous;
+    },
+    (λ i. record { degree = v.degree; terms = (row_combination-normal m.modulus positive m.rows h.coefficients ∙ h.value) i }),
+  )
+
+  pub span_submodule : IsMatrix m → IsSubmodule m.modulus m.target (InSpan m)
+  span_submodule matrix = record {
+    module_like = span_module m positive matrix;
+    combinations = λ rows inside d c h.
+        InSpan-IsCombination _
+        (IsCombination-trans m.modulus m.rows positive rows (AllByRecursion-weaken (InSpan m) (IsCombination m.modulus m.rows) IsCombination-InSpan rows inside)
+        (record { degree = d; terms = row_combination m.modulus rows c }) (record { coefficients = c; homogeneous = h; value = refl }));
+  }
+
+  pub relation_submodule : (target : List ℤ) (B : Vector → Type 0) → IsSubmodule m.modulus target B → IsSubmodule m.modulus (row_degrees m) (IsRelation m B)
+  relation_submodule target B submodule = record {
+    module_like = relation_module m positive target B submodule.module_like;
+    combinations = λ rows inside d c h.
+        let images = with_terms (row_combination m.modulus m.rows) rows in
+        let degrees : degrees_of images ≡ degrees_of rows = degrees-with_terms (row_combination m.modulus m.rows) rows in
+        let images_inside : AllByRecursion B images = AllByRecursion-map B (combined m) rows (AllByRecursion-weaken (IsRelation m B) (λ v. B (combined m v)) (λ v k. k.inside) rows inside) in
+        let same : row_combination m.modulus images c ≡ row_combination m.modulus m.rows (row_combination m.modulus rows c) =
+        row_combination-matrix_product m.modulus positive (matrix_of m.modulus (row_degrees m) rows) m c refl in
+        record {
+          coefficients = record {
+            canonical = IsCanonical-row_combination m.modulus positive rows c;
+            homogeneous = IsHomogeneous-row_combination (row_degrees m) m.modulus rows (AllByRecursion-weaken _ _ (λ v k. k.coefficients.homogeneous) rows inside) d c h;
+          };
+          inside = subst (λ ts. B (record { degree = d; terms = ts })) same (submodule.combinations images images_inside d c (subst (λ ds. IsHomogeneous ds d c) (sym degrees) h));
+        };
+  }
+
+module _ (p : ℕ) (positive : 0 < p) (target : List ℤ) (N : Vector → Type 0) (submodule : IsSubmodule p target N) where
+  -- 0 of each degree
+  pub zero-inside : (d : ℤ) → N (record { degree = d; terms = [] })
+  zero-inside d = subst (λ ts. N (record { degree = d; terms = ts })) (row_combination-nil p positive []) (submodule.combinations [] tt d [] tt)
+
+  sum-inside : (d : ℤ) (us vs : List (Term Place)) → N (record { degree = d; terms = us }) → N (record { degree = d; terms = vs }) → N (record { degree = d; terms = add place_cmp p us vs })
+  sum-inside d us vs h k =
+      let canonical = (submodule.module_like.vectors (record { degree = d; terms = vs }) k).canonical in
+      let opposite = submodule.module_like.differences (record { degree = d; terms = [] }) (record { degree = d; terms = vs }) (zero-inside d) k refl in
+      let back : negative p (add place_cmp p [] (negative p vs)) ≡ vs =
+      ap (negative p) (add-nil_first place_cmp place_cmp_linear p positive (negative p vs) (IsCanonical-negative place_cmp p vs canonical))
+      ∙ negative-negative place_cmp p vs canonical.residues in
+      subst (λ ts. N (record { degree = d; terms = add place_cmp p us ts })) back
+      (submodule.module_like.differences (record { degree = d; terms = us }) (record { degree = d; terms = add place_cmp p [] (negative p vs) }) h opposite refl)
+
+  pub submodule_closed : HasSumsAndMultiples p N
+  submodule_closed = record { sums = sum-inside; multiples = λ v c h k. submodule.combinations (v ∷ []) (h, tt) c.degree c.terms k.homogeneous }
+
+-- a span, with the modulus and the degrees as they are known
+pub span_submodule_of : (p : ℕ) → 0 < p → (target : List ℤ) (m : Matrix) → m.modulus ≡ p → m.target ≡ target → IsMatrix m → IsSubmodule p target (InSpan m)
+span_submodule_of p positive target m modulus same matrix =
+    subst (λ ds. IsSubmodule p ds (InSpan m)) same (subst (λ q. IsSubmodule q m.target (InSpan m)) modulus (span_submodule m (subst (λ q. 0 < q) (sym modulus) positive) matrix))

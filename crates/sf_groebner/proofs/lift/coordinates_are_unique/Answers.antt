@@ -1,0 +1,10 @@
+use Rattle.sf_groebner.proofs.ReducedCoordinates.{InSpan-relations, IsRelation-span, reduced_coordinates, unique_reduced_vector}
+use Rattle.sf_groebner.proofs.lift.coordinates_are_unique.Goals as goal
+
+pub returns : goal.returns
+returns c = record {
+  relations = λ g b r prime moduli matrix modulus target minimal v.
+      (InSpan-relations g b r prime moduli matrix modulus target minimal v, IsRelation-span g b r prime moduli matrix modulus target minimal v);
+  coordinates = reduced_coordinates;
+  unique = unique_reduced_vector;
+}
