@@ -47,3 +47,5 @@ pub mod Completions
 pub mod Tails
 pub mod SortedRows
 pub mod ReducedExistence
+pub mod AddedParts
+pub mod GraphGenerators
