@@ -49,3 +49,8 @@ pub mod SortedRows
 pub mod ReducedExistence
 pub mod AddedParts
 pub mod GraphGenerators
+pub mod Decisions
+pub mod MatrixModules
+pub mod MatrixBases
+pub mod LiftExistence
+pub mod Rests
