@@ -65,3 +65,10 @@ pub mod SpanCombinations
 pub mod GeneratingBases
 pub mod ReducedCoordinates
 pub mod LiftPropositions
+pub mod AddedParts
+pub mod GraphGenerators
+pub mod Decisions
+pub mod MatrixModules
+pub mod MatrixBases
+pub mod LiftExistence
+pub mod Rests
