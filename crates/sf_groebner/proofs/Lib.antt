@@ -72,3 +72,11 @@ pub mod MatrixModules
 pub mod MatrixBases
 pub mod LiftExistence
 pub mod Rests
+pub mod GraphBases
+pub mod QuadricsGraph
+pub mod QuadricsParts
+pub mod RefusedLists
+pub mod UniqueKept
+pub mod MonicSums
+pub mod KoszulSteps
+pub mod QuadricsSteps

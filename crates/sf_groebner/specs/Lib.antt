@@ -16,3 +16,6 @@ pub mod CriterionLaws
 pub mod PresentationLaws
 pub mod MinimalLaws
 pub mod ExistenceLaws
+pub mod Examples
+pub mod RefusedBases
+pub mod ResolutionExamples
