@@ -97,4 +97,3 @@ module _ (p : ℕ) (positive : 0 < p) (n k : ℕ) where
   add-parts ts canonical within =
       same_from_total place_cmp place_cmp_linear p positive _ _ (IsCanonical-add place_cmp place_cmp_linear p positive _ _) canonical
       (λ g additive. total-add place_cmp place_cmp_linear p g additive (part_terms 0 n ts) (moved n (part_terms n (n + k) ts)) ∙ total-parts g ts within)
-
