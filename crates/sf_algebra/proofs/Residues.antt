@@ -16,10 +16,6 @@ pub sum_mod-assoc : (p a b c : ℕ) → sum_mod p (sum_mod p a b) c ≡ sum_mod 
 unfolding sum_mod
 sum_mod-assoc p a b c = simp (mod-add-mod, add-mod-mod, add_assoc)
 
--- the first two of three terms may be exchanged
-pub sum_mod-left_comm : (p a b c : ℕ) → sum_mod p a (sum_mod p b c) ≡ sum_mod p b (sum_mod p a c)
-sum_mod-left_comm p a b c = sym (sum_mod-assoc p a b c) ∙ ap (λ n. sum_mod p n c) (sum_mod-comm p a b) ∙ sum_mod-assoc p b a c
-
 -- a sum of two sums, by their first terms and their second ones
 pub sum_mod-exchange : (p a b c d : ℕ) → sum_mod p (sum_mod p a b) (sum_mod p c d) ≡ sum_mod p (sum_mod p a c) (sum_mod p b d)
 sum_mod-exchange p a b c d =

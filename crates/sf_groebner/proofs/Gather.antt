@@ -10,10 +10,11 @@ use Rattle.sf_algebra.specs.Vectors.{Place, place_cmp}
 use Rattle.sf_algebra.proofs.Lists.{AllByRecursion-append}
 use Rattle.sf_algebra.proofs.Normal.{EachPlace}
 use Rattle.sf_algebra.proofs.Orders.{ordering_cases, place_cmp-Equal}
-use Rattle.sf_algebra.proofs.Residues.{sum_mod-assoc, sum_mod-left_comm, sum_mod-first, sum_mod-zero, sum_mod-zero_first}
+use Rattle.sf_algebra.proofs.Residues.{sum_mod-assoc, sum_mod-first, sum_mod-zero, sum_mod-zero_first}
 use Rattle.sf_algebra.proofs.SameTotals.{SameTotals, SameTotals-append, SameTotals-equal, SameTotals-products, SameTotals-refl, SameTotals-sym, SameTotals-trans}
 use Rattle.sf_algebra.proofs.Totals.{total-append, total-cons, total-nil, total-reduced}
 use Rattle.sf_groebner.specs.Criterion.{image}
+use Rattle.sf_groebner.proofs.Exchanges.{sum_mod-left_comm}
 use Rattle.sf_groebner.proofs.Multiplied.{EachPlace-constant, SameTotals-constant, constant_term}
 use Rattle.sf_groebner.proofs.Images.{IsAllSettled, IsAtMost, IsModule, IsSettled, IsUnder, at_place, top_part}
 

@@ -2,6 +2,7 @@ pub mod Accessible
 pub mod Dickson
 pub mod PlaceDivisors
 pub mod SpanGroups
+pub mod Exchanges
 pub mod Images
 pub mod Multiplied
 pub mod Gather

@@ -12,10 +12,11 @@ use Rattle.sf_algebra.proofs.Lists.{AllByRecursion-append}
 use Rattle.sf_algebra.proofs.Negatives.{negative_one_term}
 use Rattle.sf_algebra.proofs.Normal.{EachPlace}
 use Rattle.sf_algebra.proofs.Places.{place_cmp-place_product, place_product-assoc}
-use Rattle.sf_algebra.proofs.Residues.{sum_mod-assoc, sum_mod-left_comm, sum_mod-zero}
+use Rattle.sf_algebra.proofs.Residues.{sum_mod-assoc, sum_mod-zero}
 use Rattle.sf_algebra.proofs.SameTotals.{SameTotals, SameTotals-append, SameTotals-equal, SameTotals-negative, SameTotals-products, SameTotals-refl, SameTotals-sym, SameTotals-trans}
 use Rattle.sf_algebra.proofs.Totals.{total-append, total-nil, total-reduced}
 use Rattle.sf_groebner.specs.Criterion.{image}
+use Rattle.sf_groebner.proofs.Exchanges.{sum_mod-left_comm}
 use Rattle.sf_groebner.proofs.Images.{IsModule, IsSettled, IsUnder, at_place}
 use Rattle.sf_groebner.proofs.Multiplied.{EachPlace-constant, EachPlace-products, SameTotals-at_place}
 
