@@ -81,3 +81,4 @@ pub mod UniqueKept
 pub mod MonicSums
 pub mod KoszulSteps
 pub mod QuadricsSteps
+pub mod PresentedModules

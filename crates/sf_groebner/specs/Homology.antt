@@ -14,8 +14,8 @@ IsAny p degrees v = IsVector p degrees v
 abbrev pub IsCycle : Matrix → Matrix → Vector → Type 0
 IsCycle out beyond c = IsRelation out (InSpan beyond) c
 
--- the homology at a place with the relations `here`, between the map `in` that arrives and the map `out` into a module with the
--- relations `beyond`: cycles modulo the span of `in` and `here`
+-- the homology at a place with the relations `here`, between the map `arriving` and the map `out` into a module with the
+-- relations `beyond`: cycles modulo the span of `arriving` and `here`
 abbrev pub IsHomology : Matrix → Matrix → Matrix → Matrix → Matrix → Matrix → Type 0
 IsHomology arriving here out beyond generators relations =
     IsPresentation here.modulus here.target (IsCycle out beyond) (InSpan (stacked arriving here)) generators relations

@@ -1,7 +1,8 @@
 -- What holds of presentations: each is determined by its matrices. (Weibel, "An Introduction to Homological Algebra", sections 1.1
 -- and 2.2.)
 use Rattle.std.specs.Prelude.{◌≡◌, ◌<◌, List, length}
-use Rattle.sf_algebra.specs.Matrices.{Matrix, IsMatrix}
+use Rattle.std.specs.List.{AllByRecursion}
+use Rattle.sf_algebra.specs.Matrices.{Matrix, row_degrees, IsMatrix}
 use Rattle.sf_algebra.specs.MatrixOperations.{stacked}
 use Rattle.sf_groebner.specs.Homology.{IsHomology, IsKernel, IsImage, IsCokernel}
 use Rattle.sf_groebner.specs.Resolutions.{IsResolution}
@@ -36,3 +37,14 @@ abbrev pub HasOneResolution : Type 0
 HasOneResolution =
     (relations : Matrix) → 0 < relations.modulus → IsMatrix relations → (a b : List Matrix) → length a ≡ length b → IsResolution relations a → IsResolution relations b
     → a ≡ b
+
+-- generators and relations of a homology are matrices, where the coefficients of `out` are vectors over the target of `here`
+abbrev pub HasMatrixHomology : Type 0
+HasMatrixHomology =
+    (arriving here out beyond : Matrix) → out.modulus ≡ here.modulus → row_degrees out ≡ here.target
+    → (g r : Matrix) → IsHomology arriving here out beyond g r → IsMatrix g × IsMatrix r
+
+-- the steps of a resolution are matrices
+abbrev pub HasMatrixSteps : Type 0
+HasMatrixSteps =
+    (relations : Matrix) → 0 < relations.modulus → IsMatrix relations → (steps : List Matrix) → IsResolution relations steps → AllByRecursion IsMatrix steps

@@ -1,0 +1,18 @@
+use Rattle.std.proofs.Common.{subst}
+use Rattle.sf_algebra.specs.Matrices.{row_degrees}
+use Rattle.sf_algebra.specs.MatrixOperations.{stacked}
+use Rattle.sf_algebra.specs.Vectors.{IsVector}
+use Rattle.sf_groebner.specs.Homology.{IsCycle}
+use Rattle.sf_groebner.specs.Spans.{InSpan}
+use Rattle.sf_groebner.proofs.PresentedModules.{IsMatrix-generators, IsMatrix-relations, IsMatrix-resolution}
+use Rattle.sf_groebner.proofs.presentation.presentations_are_matrices.Goals as goal
+
+pub returns : goal.returns
+returns c = record {
+  homology = λ arriving here out beyond modulus degrees g r h. (
+    IsMatrix-generators here.modulus here.target (IsCycle out beyond) (InSpan (stacked arriving here)) g r h
+        (λ v k. subst (λ ds. IsVector here.modulus ds v) degrees (subst (λ q. IsVector q (row_degrees out) v) modulus k.coefficients)),
+    IsMatrix-relations here.modulus here.target (IsCycle out beyond) (InSpan (stacked arriving here)) g r h,
+  );
+  resolution = IsMatrix-resolution;
+}
