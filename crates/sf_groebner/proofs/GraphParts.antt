@@ -39,11 +39,11 @@ module _ (m : Matrix) where
   graph_value w h = λ i. record { degree = w.degree; terms = sym h.value i }
 
   -- the vector of the graph with these coefficients
-  abbrev graph_of : Vector → Vector
+  abbrev pub graph_of : Vector → Vector
   graph_of c = record { degree = c.degree; terms = pair_terms (length m.target) (row_combination m.modulus m.rows c.terms) c.terms }
 
   module _ (positive : 0 < m.modulus) where
-    abbrev IsValue : Vector → Type 0
+    abbrev pub IsValue : Vector → Type 0
     IsValue c = IsVector m.modulus m.target (combined m c)
 
     graph_of-first : (c : Vector) → IsValue c → value_terms m (graph_of c).terms ≡ row_combination m.modulus m.rows c.terms
@@ -53,7 +53,7 @@ module _ (m : Matrix) where
     graph_of-last c h k =
         part_terms-pair_last (length m.target) (length m.rows) (row_combination m.modulus m.rows c.terms) c.terms (IsWithin-IsVector m.modulus m.target (combined m c) h) (IsWithin-coefficients m c k)
 
-    IsGraphVector-graph_of : (c : Vector) → IsValue c → IsCoefficients m c → IsGraphVector m (graph_of c)
+    pub IsGraphVector-graph_of : (c : Vector) → IsValue c → IsCoefficients m c → IsGraphVector m (graph_of c)
     IsGraphVector-graph_of c h k = record {
       vector = IsVector-pair m.target (row_degrees m) c.degree m.modulus (row_combination m.modulus m.rows c.terms) c.terms h k;
       value = graph_of-first c h ∙ ap (row_combination m.modulus m.rows) (sym (graph_of-last c h k));

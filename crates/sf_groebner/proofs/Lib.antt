@@ -60,3 +60,5 @@ pub mod SpanCombinations
 pub mod GeneratingBases
 pub mod ReducedCoordinates
 pub mod LiftPropositions
+pub mod AddedParts
+pub mod GraphGenerators
