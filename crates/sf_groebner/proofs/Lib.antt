@@ -62,3 +62,8 @@ pub mod ReducedCoordinates
 pub mod LiftPropositions
 pub mod AddedParts
 pub mod GraphGenerators
+pub mod Decisions
+pub mod SyzygyCombinations
+pub mod MatrixBases
+pub mod LiftExistence
+pub mod Rests

@@ -15,3 +15,4 @@ pub mod LiftLaws
 pub mod CriterionLaws
 pub mod PresentationLaws
 pub mod MinimalLaws
+pub mod ExistenceLaws

@@ -1,0 +1,26 @@
+ghost use Rattle.sf_groebner.specs.ExistenceLaws.{HasGraphBasis, HasSpanBasis, HasSyzygyBasis, HasAnswer, HasNoOtherAnswer, HasDivisions, HasOneRest, HasRestOutside, HasLifts};
+
+/// Modulo a prime the graph, the span and the syzygies of a matrix have reduced bases.
+pub fn reduced_bases_exist()
+    ensures graph { HasGraphBasis }
+    ensures span { HasSpanBasis }
+    ensures syzygies { HasSyzygyBasis }
+{}
+
+/// For each limit and each matrix modulo a prime there is exactly one answer: the reduced basis of its graph, or that it is large.
+pub fn each_matrix_has_one_answer()
+    ensures exists { HasAnswer }
+    ensures unique { HasNoOtherAnswer }
+{}
+
+/// Modulo a prime each vector has a division by the reduced basis of a span, with one rest, which is none for the vectors of the span.
+pub fn each_vector_has_one_rest()
+    ensures exists { HasDivisions }
+    ensures unique { HasOneRest }
+    ensures inside { HasRestOutside }
+{}
+
+/// Modulo a prime each vector of a span has a lift.
+pub fn each_vector_of_a_span_has_a_lift()
+    ensures exists { HasLifts }
+{}
