@@ -67,3 +67,5 @@ pub mod SyzygyCombinations
 pub mod MatrixBases
 pub mod LiftExistence
 pub mod Rests
+pub mod SumDecisions
+pub mod MinimalExistence
