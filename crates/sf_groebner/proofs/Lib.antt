@@ -82,3 +82,6 @@ pub mod MonicSums
 pub mod KoszulSteps
 pub mod QuadricsSteps
 pub mod PresentedModules
+pub mod SyzygyCombinations
+pub mod SumDecisions
+pub mod MinimalExistence

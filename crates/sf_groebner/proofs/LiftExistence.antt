@@ -12,7 +12,7 @@ use Rattle.sf_groebner.specs.Lifts.{IsLift}
 use Rattle.sf_groebner.specs.Spans.{InSpan, IsSyzygy}
 use Rattle.sf_groebner.proofs.Divisions.{divide}
 use Rattle.sf_groebner.proofs.MatrixBases.{basis-monic, syzygy_basis}
-use Rattle.sf_groebner.proofs.MatrixModules.{syzygy_submodule}
+use Rattle.sf_groebner.proofs.SyzygyCombinations.{syzygy_submodule}
 
 pub lift_exists : (m : Matrix) → IsPrime m.modulus → IsMatrix m → (v : Vector) → InSpan m v → (c : Vector) × IsLift m v c
 lift_exists m prime matrix v h =

@@ -45,7 +45,7 @@ zero_submodule p positive target = record {
 
 module _ (m : Matrix) (positive : 0 < m.modulus) where
   -- a sum with 0 is in the span
-  InSpan-sum : (v : Vector) → IsInSum m IsZero v → InSpan m v
+  pub InSpan-sum : (v : Vector) → IsInSum m IsZero v → InSpan m v
   InSpan-sum v h =
       let canonical : IsCanonical place_cmp m.modulus h.second.terms =
       subst (λ (x : Vector). IsCanonical place_cmp m.modulus x.terms) (h.in_span).2 (IsCanonical-row_combination m.modulus positive m.rows ((h.in_span).0).terms) in
@@ -55,7 +55,7 @@ module _ (m : Matrix) (positive : 0 < m.modulus) where
       ∙ h.sum in
       subst (InSpan m) (λ i. record { degree = h.second_degree i; terms = terms i }) h.in_span
 
-  IsInSum-span : (v : Vector) → InSpan m v → IsInSum m IsZero v
+  pub IsInSum-span : (v : Vector) → InSpan m v → IsInSum m IsZero v
   IsInSum-span v h = record {
     first = record { degree = v.degree; terms = [] };
     second = v;

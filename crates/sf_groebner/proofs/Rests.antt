@@ -18,9 +18,9 @@ use Rattle.sf_groebner.specs.ReducedBases.{HasDividedLead, IsReducedBasis}
 use Rattle.sf_groebner.specs.Spans.{InSpan}
 use Rattle.sf_groebner.proofs.Divisions.{divide}
 use Rattle.sf_groebner.proofs.MatrixBases.{basis-monic}
-use Rattle.sf_groebner.proofs.MatrixModules.{row_combination-normal, span_submodule}
 use Rattle.sf_groebner.proofs.Modules.{difference}
 use Rattle.sf_groebner.proofs.Remainders.{IsReducedBy-none, same_reduced}
+use Rattle.sf_groebner.proofs.SpanCombinations.{row_combination-normal, span_submodule}
 use Rattle.sf_groebner.proofs.Submodules.{IsSubmodule}
 use Rattle.sf_groebner.proofs.Subtractions.{add-negative_front}
 
