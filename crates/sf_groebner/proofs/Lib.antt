@@ -35,3 +35,6 @@ pub mod Remainders
 pub mod Lifts
 pub mod GraphLifts
 pub mod Relations
+pub mod GraphBases
+pub mod QuadricsGraph
+pub mod QuadricsParts

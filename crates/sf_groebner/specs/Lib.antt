@@ -12,3 +12,4 @@ pub mod BasisLaws
 pub mod Cuts
 pub mod CutLaws
 pub mod LiftLaws
+pub mod Examples
