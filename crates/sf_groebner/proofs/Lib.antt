@@ -38,3 +38,4 @@ pub mod Relations
 pub mod GraphBases
 pub mod QuadricsGraph
 pub mod QuadricsParts
+pub mod RefusedLists

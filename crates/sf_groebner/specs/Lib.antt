@@ -13,3 +13,4 @@ pub mod Cuts
 pub mod CutLaws
 pub mod LiftLaws
 pub mod Examples
+pub mod RefusedBases

@@ -1,4 +1,5 @@
 ghost use Rattle.sf_groebner.specs.Examples.{IsQuadricsMatrix, HasQuadricsGraphBasis, HasQuadricsBasis, HasQuadricsSyzygy, HasThirdRowLift, HasSmallQuadrics, HasLargeQuadrics, RefusesOtherCoefficients, RefusesUnitAsSyzygy};
+ghost use Rattle.sf_groebner.specs.RefusedBases.{RefusesLaterLeadInTail, RefusesEarlierLeadInTail, RefusesOutsideRows, RefusesDoubledRow, RefusesZero, RefusesWithoutThirdRow, RefusesSmallerLeadFirst, RefusesGreaterDegreeFirst};
 
 /// The ideal of x^2 and x y + y^2: its graph, its reduced basis, its syzygies and a lift.
 pub fn two_quadrics()
@@ -11,4 +12,16 @@ pub fn two_quadrics()
     ensures not_lift { RefusesOtherCoefficients }
     ensures small { HasSmallQuadrics }
     ensures large { HasLargeQuadrics }
+{}
+
+/// Lists that aren't the reduced basis of that ideal, each of which meets all but one of the conditions.
+pub fn refused_bases()
+    ensures later_lead_in_tail { RefusesLaterLeadInTail }
+    ensures earlier_lead_in_tail { RefusesEarlierLeadInTail }
+    ensures outside_rows { RefusesOutsideRows }
+    ensures doubled_row { RefusesDoubledRow }
+    ensures zero { RefusesZero }
+    ensures without_third_row { RefusesWithoutThirdRow }
+    ensures smaller_lead_first { RefusesSmallerLeadFirst }
+    ensures greater_degree_first { RefusesGreaterDegreeFirst }
 {}
