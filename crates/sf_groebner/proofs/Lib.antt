@@ -39,3 +39,7 @@ pub mod GraphBases
 pub mod QuadricsGraph
 pub mod QuadricsParts
 pub mod RefusedLists
+pub mod UniqueKept
+pub mod MonicSums
+pub mod KoszulSteps
+pub mod QuadricsSteps

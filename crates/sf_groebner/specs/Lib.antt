@@ -14,3 +14,4 @@ pub mod CutLaws
 pub mod LiftLaws
 pub mod Examples
 pub mod RefusedBases
+pub mod ResolutionExamples

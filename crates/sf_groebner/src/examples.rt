@@ -1,5 +1,6 @@
 ghost use Rattle.sf_groebner.specs.Examples.{IsQuadricsMatrix, HasQuadricsGraphBasis, HasQuadricsBasis, HasQuadricsSyzygy, HasThirdRowLift, HasSmallQuadrics, HasLargeQuadrics, RefusesOtherCoefficients, RefusesUnitAsSyzygy};
 ghost use Rattle.sf_groebner.specs.RefusedBases.{RefusesLaterLeadInTail, RefusesEarlierLeadInTail, RefusesOutsideRows, RefusesDoubledRow, RefusesZero, RefusesWithoutThirdRow, RefusesSmallerLeadFirst, RefusesGreaterDegreeFirst};
+ghost use Rattle.sf_groebner.specs.ResolutionExamples.{HasKoszulResolution, RefusesOneVariable, HasQuadricsResolution, RefusesThirdRow};
 
 /// The ideal of x^2 and x y + y^2: its graph, its reduced basis, its syzygies and a lift.
 pub fn two_quadrics()
@@ -24,4 +25,12 @@ pub fn refused_bases()
     ensures without_third_row { RefusesWithoutThirdRow }
     ensures smaller_lead_first { RefusesSmallerLeadFirst }
     ensures greater_degree_first { RefusesGreaterDegreeFirst }
+{}
+
+/// The resolution of the ideal of two variables, and that of the ideal of x^2 and x y + y^2.
+pub fn resolutions_of_ideals()
+    ensures variables { HasKoszulResolution }
+    ensures one_variable { RefusesOneVariable }
+    ensures quadrics { HasQuadricsResolution }
+    ensures third_row { RefusesThirdRow }
 {}

@@ -1,0 +1,95 @@
+-- The example of two variables: the reduced basis of its graph, and the steps of its resolution.
+use Rattle.std.proofs.Common.{◌≡◌, ℕ, zero, suc, ◌<◌, List, [], ◌∷◌, ◌++◌, length, inl, inr, refl, subst, arith, pos}
+use Rattle.std.proofs.lemmas.Int.{ints}
+use Rattle.std.specs.List.{AllByRecursion}
+use Rattle.sf_algebra.specs.Matrices.{IsMatrix}
+use Rattle.sf_algebra.specs.Multiples.{combination, combination_terms}
+use Rattle.sf_algebra.specs.Residues.{sum_mod, product_mod, negative_mod}
+use Rattle.sf_algebra.specs.Sums.{normal, insert}
+use Rattle.sf_algebra.specs.Vectors.{Vector, IsVector}
+use Rattle.sf_groebner.specs.Criterion.{HaveLeadsAtOnePosition, IsMonicRow, ReducesToZero}
+use Rattle.sf_groebner.specs.Examples.{term, vector}
+use Rattle.sf_groebner.specs.MinimalGenerators.{AreKept, AreMinimal, IsInSum, matrix_of}
+use Rattle.sf_groebner.specs.Presentations.{IsZero}
+use Rattle.sf_groebner.specs.ReducedBases.{IsReducedBasis}
+use Rattle.sf_groebner.specs.ResolutionExamples.{x_row, y_row, two_variables, koszul_row, koszul, HasKoszulResolution, RefusesOneVariable}
+use Rattle.sf_groebner.specs.Spans.{graph_degrees, InSpan, IsGraphVector, IsSyzygy}
+use Rattle.sf_groebner.proofs.GraphBases.{IsGraphCandidate, reduced_graph}
+use Rattle.sf_groebner.proofs.GraphParts.{reduced-span, reduced-syzygies}
+use Rattle.sf_groebner.proofs.MonicSums.{not_in_sum, no_syzygies}
+use Rattle.sf_groebner.proofs.Spans.{span_module}
+use Rattle.sf_groebner.proofs.UniqueKept.{unique_minimal}
+
+matrix : IsMatrix two_variables
+matrix = search (arith, ints)
+
+-- x and y with their coefficients, and the syzygy
+abbrev graph_rows : List Vector
+graph_rows = vector 1 (term 1 0 (1 ∷ []) ∷ term 1 1 [] ∷ []) ∷ vector 1 (term 1 0 (0 ∷ 1 ∷ []) ∷ term 1 2 [] ∷ []) ∷ []
+
+abbrev others : List Vector
+others = vector 2 (term 1 1 (0 ∷ 1 ∷ []) ∷ term 100 2 (1 ∷ []) ∷ []) ∷ []
+
+abbrev rows : List Vector
+rows = graph_rows ++ others
+
+vectors : AllByRecursion (IsVector 101 (graph_degrees two_variables)) rows
+vectors = search (arith, ints)
+
+inside : AllByRecursion (IsGraphVector two_variables) rows
+unfolding combination combination_terms normal insert sum_mod product_mod
+inside = let h = vectors in (record { vector = h.0; value = refl }, (record { vector = h.1.0; value = refl }, (record { vector = h.1.1.0; value = refl }, tt)))
+
+-- y times x less x times y: the syzygy
+first_second : ReducesToZero 101 rows 0 1
+unfolding combination combination_terms normal insert sum_mod product_mod negative_mod
+first_second = record { steps = term 1 2 [] ∷ []; below = ((omega arith, refl), tt); value = refl }
+
+pairs : (i j : ℕ) → i < j → j < length rows → HaveLeadsAtOnePosition rows i j → ReducesToZero 101 rows i j
+pairs zero (suc zero) h k e = first_second
+pairs zero (suc (suc zero)) h k e = absurd (omega (arith, e))
+pairs (suc zero) (suc (suc zero)) h k e = absurd (omega (arith, e))
+pairs i j h k e = absurd (omega arith)
+
+candidate : IsGraphCandidate two_variables graph_rows others
+candidate = record { values = refl; units = refl; inside = inside; monic = search arith; pairs = pairs; apart = search arith; sorted = search arith }
+
+reduced : IsReducedBasis (IsGraphVector two_variables) rows
+reduced = reduced_graph two_variables (omega arith) graph_rows others candidate
+
+span : IsReducedBasis (InSpan two_variables) (x_row ∷ y_row ∷ [])
+span = reduced-span two_variables (omega arith) matrix rows reduced
+
+syzygies : IsReducedBasis (IsSyzygy two_variables) (koszul_row ∷ [])
+syzygies = reduced-syzygies two_variables (omega arith) rows reduced
+
+-- no row is a sum of the earlier ones
+x_needed : IsInSum (matrix_of 101 (pos 0 ∷ []) []) IsZero x_row → ⊥
+x_needed = not_in_sum 101 (omega arith) (pos 0 ∷ []) [] tt (λ i j h k e. absurd (omega (arith, k))) x_row (λ e. cc)
+
+y_needed : IsInSum (matrix_of 101 (pos 0 ∷ []) (x_row ∷ [])) IsZero y_row → ⊥
+y_needed = not_in_sum 101 (omega arith) (pos 0 ∷ []) (x_row ∷ []) (search arith) (λ i j h k e. absurd (omega (arith, h, k))) y_row (λ e. cc)
+
+koszul_needed : IsInSum (matrix_of 101 (pos 1 ∷ pos 1 ∷ []) []) IsZero koszul_row → ⊥
+koszul_needed = not_in_sum 101 (omega arith) (pos 1 ∷ pos 1 ∷ []) [] tt (λ i j h k e. absurd (omega (arith, k))) koszul_row (λ e. cc)
+
+variables_minimal : AreMinimal 101 (pos 0 ∷ []) (InSpan two_variables) IsZero (x_row ∷ y_row ∷ [])
+variables_minimal = record { basis = x_row ∷ y_row ∷ []; reduced = span; kept = inr (x_needed, (y_row ∷ [], refl, inr (y_needed, ([], refl, refl)))) }
+
+koszul_minimal : AreMinimal 101 (pos 1 ∷ pos 1 ∷ []) (IsSyzygy two_variables) IsZero (koszul_row ∷ [])
+koszul_minimal = record { basis = koszul_row ∷ []; reduced = syzygies; kept = inr (koszul_needed, ([], refl, refl)) }
+
+end_minimal : AreMinimal 101 (pos 2 ∷ []) (IsSyzygy koszul) IsZero []
+end_minimal = record { basis = []; reduced = no_syzygies 101 (omega arith) (pos 1 ∷ pos 1 ∷ []) koszul_row (search arith); kept = refl }
+
+pub koszul-resolution : HasKoszulResolution
+koszul-resolution = (
+  record { modulus = refl; target = refl; minimal = variables_minimal },
+  (record { modulus = refl; target = refl; minimal = koszul_minimal }, (record { modulus = refl; target = refl; minimal = end_minimal }, tt)),
+)
+
+pub refuses_one_variable : RefusesOneVariable
+refuses_one_variable h =
+    let same : x_row ∷ [] ≡ x_row ∷ y_row ∷ [] =
+    unique_minimal 101 (omega arith) (pos 0 ∷ []) (InSpan two_variables) IsZero (span_module two_variables (omega arith) matrix) (x_row ∷ []) (x_row ∷ y_row ∷ []) h variables_minimal in
+    cc

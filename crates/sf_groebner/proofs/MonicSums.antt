@@ -1,0 +1,51 @@
+-- Monic rows whose pairs reduce to zero: a vector whose lead none of theirs divides is no sum of them; one row has no syzygies.
+use Rattle.std.proofs.Common.{◌≡◌, ℕ, ◌<◌, List, [], ◌∷◌, length, sym, ◌∙◌, ap, subst, ℤ, arith}
+use Rattle.std.specs.List.{AllByRecursion}
+use Rattle.sf_algebra.specs.Matrices.{row_degrees}
+use Rattle.sf_algebra.specs.MatrixOperations.{row_combination}
+use Rattle.sf_algebra.specs.Sums.{add}
+use Rattle.sf_algebra.specs.Terms.{Term, IsCanonical}
+use Rattle.sf_algebra.specs.Vectors.{Place, Vector, place_cmp}
+use Rattle.sf_algebra.proofs.Orders.{place_cmp_linear}
+use Rattle.sf_algebra.proofs.Rows.{IsCanonical-row_combination}
+use Rattle.sf_algebra.proofs.Sums.{add-nil_first, normal-canonical}
+use Rattle.sf_groebner.specs.Criterion.{HaveLeadsAtOnePosition, IsForRows, IsMonicRow, ReducesToZero}
+use Rattle.sf_groebner.specs.MinimalGenerators.{IsInSum, matrix_of}
+use Rattle.sf_groebner.specs.Presentations.{IsZero}
+use Rattle.sf_groebner.specs.ReducedBases.{HasDividedLead, IsReducedBasis}
+use Rattle.sf_groebner.specs.Spans.{InSpan, IsSyzygy}
+use Rattle.sf_groebner.proofs.Buchberger.{buchberger}
+use Rattle.sf_groebner.proofs.GraphParts.{IsWithin-coefficients}
+use Rattle.sf_groebner.proofs.Schreyer.{IsSpanned, schreyer}
+
+module _ (p : ℕ) (positive : 0 < p) where
+  module _ (target : List ℤ) (rows : List Vector) (monic : AllByRecursion (IsMonicRow p) rows)
+      (pairs : (i j : ℕ) → i < j → j < length rows → HaveLeadsAtOnePosition rows i j → ReducesToZero p rows i j) where
+    span_lead : (v : Vector) → InSpan (matrix_of p target rows) v → HasDividedLead rows v.terms
+    span_lead v h = subst (λ (w : Vector). HasDividedLead rows w.terms) h.2 (buchberger p positive rows monic pairs h.0.terms (IsWithin-coefficients (matrix_of p target rows) h.0 h.1))
+
+    sum-zero_first : (v : Vector) (h : IsInSum (matrix_of p target rows) IsZero v) → h.second.terms ≡ v.terms
+    sum-zero_first v h =
+        sym (add-nil_first place_cmp place_cmp_linear p positive h.second.terms
+        (subst (λ (w : Vector). IsCanonical place_cmp p w.terms) h.in_span.2 (IsCanonical-row_combination p positive rows h.in_span.0.terms)))
+        ∙ ap (λ us. add place_cmp p us h.second.terms) (sym h.in_module)
+        ∙ h.sum
+
+    pub not_in_sum : (v : Vector) → (HasDividedLead rows v.terms → ⊥) → IsInSum (matrix_of p target rows) IsZero v → ⊥
+    not_in_sum v none h = none (subst (HasDividedLead rows) (sum-zero_first v h) (span_lead h.second h.in_span))
+
+  -- combinations of no rows have no lead
+  no_rows : (c : List (Term Place)) → AllByRecursion (IsForRows []) c → HasDividedLead [] (row_combination p [] c)
+  no_rows = buchberger p positive [] tt (λ i j h k e. absurd (omega (arith, k)))
+
+  pub no_syzygies : (target : List ℤ) (v : Vector) → IsMonicRow p v → IsReducedBasis (IsSyzygy (matrix_of p target (v ∷ []))) []
+  no_syzygies target v monic = record {
+    inside = tt;
+    monic = tt;
+    complete = λ c h.
+        let spanned : IsSpanned p [] c.terms =
+        schreyer p positive (v ∷ []) [] tt (monic, tt) (λ i j earlier within e. absurd (omega (arith, earlier, within))) c.terms (IsWithin-coefficients (matrix_of p target (v ∷ [])) c h.coefficients) h.zero in
+        subst (HasDividedLead []) (spanned.value ∙ normal-canonical place_cmp place_cmp_linear p positive c.terms h.coefficients.canonical) (no_rows spanned.coefficients spanned.for_rows);
+    apart = tt;
+    sorted = tt;
+  }
