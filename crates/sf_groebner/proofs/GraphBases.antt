@@ -1,9 +1,9 @@
 -- A list that begins with the graph's own rows, each a row of the matrix and a unit vector, is the reduced basis of the graph
 -- where its pairs reduce to zero.
-use Rattle.std.proofs.Common.{◌≡◌, ℕ, ◌+◌, ◌<◌, List, [], ◌∷◌, ◌++◌, length, map, sym, ◌∙◌, ap, subst}
+use Rattle.std.proofs.Common.{◌≡◌, ℕ, ◌+◌, ◌<◌, List, ◌++◌, length, map, sym, ◌∙◌, ap, subst}
 use Rattle.std.specs.List.{AllByRecursion}
 use Rattle.sf_algebra.specs.Matrices.{Matrix, row_degrees, IsMatrix}
-use Rattle.sf_algebra.specs.MatrixOperations.{row_combination, unit_rows, part_terms}
+use Rattle.sf_algebra.specs.MatrixOperations.{row_combination, unit_rows}
 use Rattle.sf_algebra.specs.Terms.{Term}
 use Rattle.sf_algebra.specs.Vectors.{Place, Vector, IsVector}
 use Rattle.sf_algebra.proofs.HomogeneousVectors.{IsVector-row_combination}
@@ -13,7 +13,6 @@ use Rattle.sf_algebra.proofs.ProductParts.{part_terms-row_combination}
 use Rattle.sf_algebra.proofs.Stacks.{degrees-with_terms}
 use Rattle.sf_algebra.proofs.UnitRows.{row_combination-unit_rows}
 use Rattle.sf_groebner.specs.Criterion.{HaveLeadsAtOnePosition, IsForRows, IsMonicRow, ReducesToZero}
-use Rattle.sf_groebner.specs.Cuts.{part_of}
 use Rattle.sf_groebner.specs.ReducedBases.{HasDividedLead, IsApart, IsMonic, IsReducedBasis, IsSorted}
 use Rattle.sf_groebner.specs.Spans.{IsCoefficients, graph_degrees, value_terms, coefficient_terms, IsGraphVector}
 use Rattle.sf_groebner.proofs.Buchberger.{buchberger}

@@ -1,5 +1,5 @@
 -- The example of two variables: the reduced basis of its graph, and the steps of its resolution.
-use Rattle.std.proofs.Common.{◌≡◌, ℕ, zero, suc, ◌<◌, List, [], ◌∷◌, ◌++◌, length, inl, inr, refl, subst, arith, pos}
+use Rattle.std.proofs.Common.{◌≡◌, ℕ, zero, suc, ◌<◌, List, [], ◌∷◌, ◌++◌, length, inr, refl, arith, pos}
 use Rattle.std.proofs.lemmas.Int.{ints}
 use Rattle.std.specs.List.{AllByRecursion}
 use Rattle.sf_algebra.specs.Matrices.{IsMatrix}
@@ -7,9 +7,9 @@ use Rattle.sf_algebra.specs.Multiples.{combination, combination_terms}
 use Rattle.sf_algebra.specs.Residues.{sum_mod, product_mod, negative_mod}
 use Rattle.sf_algebra.specs.Sums.{normal, insert}
 use Rattle.sf_algebra.specs.Vectors.{Vector, IsVector}
-use Rattle.sf_groebner.specs.Criterion.{HaveLeadsAtOnePosition, IsMonicRow, ReducesToZero}
+use Rattle.sf_groebner.specs.Criterion.{HaveLeadsAtOnePosition, ReducesToZero}
 use Rattle.sf_groebner.specs.Examples.{term, vector}
-use Rattle.sf_groebner.specs.MinimalGenerators.{AreKept, AreMinimal, IsInSum, matrix_of}
+use Rattle.sf_groebner.specs.MinimalGenerators.{AreMinimal, IsInSum, matrix_of}
 use Rattle.sf_groebner.specs.Presentations.{IsZero}
 use Rattle.sf_groebner.specs.ReducedBases.{IsReducedBasis}
 use Rattle.sf_groebner.specs.ResolutionExamples.{x_row, y_row, two_variables, koszul_row, koszul, HasKoszulResolution, RefusesOneVariable}

@@ -1,13 +1,12 @@
 -- The example of two quadrics: the four rows of its graph's reduced basis, by Buchberger's criterion.
-use Rattle.std.proofs.Common.{◌≡◌, ℕ, zero, suc, ◌<◌, List, [], ◌∷◌, length, refl, arith}
+use Rattle.std.proofs.Common.{ℕ, zero, suc, ◌<◌, [], ◌∷◌, length, refl, arith}
 use Rattle.std.proofs.lemmas.Int.{ints}
 use Rattle.std.specs.List.{AllByRecursion}
 use Rattle.sf_algebra.specs.Matrices.{IsMatrix}
 use Rattle.sf_algebra.specs.Multiples.{combination, combination_terms}
 use Rattle.sf_algebra.specs.Residues.{sum_mod, product_mod, negative_mod}
 use Rattle.sf_algebra.specs.Sums.{normal, insert}
-use Rattle.sf_algebra.specs.Vectors.{Vector, IsVector}
-use Rattle.sf_algebra.proofs.Lists.{AllByRecursion-weaken}
+use Rattle.sf_algebra.specs.Vectors.{IsVector}
 use Rattle.sf_groebner.specs.Criterion.{HaveLeadsAtOnePosition, IsMonicRow, ReducesToZero}
 use Rattle.sf_groebner.specs.Examples.{term, quadrics, quadrics_rows, quadrics_others, quadrics_graph_basis}
 use Rattle.sf_groebner.specs.ReducedBases.{IsApart, IsReducedBasis, IsSorted}

@@ -1,10 +1,7 @@
 -- The example of two quadrics: the steps of its resolution.
-use Rattle.std.proofs.Common.{◌≡◌, ℕ, List, [], ◌∷◌, inl, inr, refl, arith, pos}
-use Rattle.std.proofs.lemmas.Int.{ints}
+use Rattle.std.proofs.Common.{◌≡◌, [], ◌∷◌, inl, inr, refl, arith, pos}
 use Rattle.sf_algebra.specs.Sums.{add, normal, insert}
-use Rattle.sf_algebra.specs.Residues.{sum_mod}
-use Rattle.sf_algebra.specs.Vectors.{Vector}
-use Rattle.sf_groebner.specs.Examples.{term, vector, first_row, second_row, third_row, quadrics, quadrics_basis, quadrics_syzygy}
+use Rattle.sf_groebner.specs.Examples.{vector, first_row, second_row, third_row, quadrics, quadrics_basis, quadrics_syzygy}
 use Rattle.sf_groebner.specs.MinimalGenerators.{AreMinimal, IsInSum, matrix_of}
 use Rattle.sf_groebner.specs.Presentations.{IsZero}
 use Rattle.sf_groebner.specs.ResolutionExamples.{quadrics_syzygies, HasQuadricsResolution, RefusesThirdRow}

@@ -1,12 +1,12 @@
 -- Lists that aren't the reduced basis of two quadrics: what refuses them, and what else they meet.
-use Rattle.std.proofs.Common.{◌≡◌, ℕ, List, [], ◌∷◌, Bool, true, false, ◌||◌, IsTrue, refl, ap, arith}
+use Rattle.std.proofs.Common.{List, [], ◌∷◌, Bool, true, false, ◌||◌, IsTrue, refl, ap, arith}
 use Rattle.std.proofs.lemmas.Int.{ints}
 use Rattle.sf_algebra.specs.Multiples.{combination, combination_terms}
 use Rattle.sf_algebra.specs.Residues.{sum_mod, product_mod}
 use Rattle.sf_algebra.specs.Sums.{normal, insert}
 use Rattle.sf_algebra.specs.Terms.{Term}
 use Rattle.sf_algebra.specs.Vectors.{Place, Vector}
-use Rattle.sf_groebner.specs.Examples.{term, vector, first_row, second_row, third_row, third_row_lift, quadrics, quadrics_basis}
+use Rattle.sf_groebner.specs.Examples.{term, vector, first_row, second_row, third_row, quadrics, quadrics_basis}
 use Rattle.sf_groebner.specs.Leads.{place_divides}
 use Rattle.sf_groebner.specs.RefusedBases.{IsComplete, later_lead_in_tail, earlier_lead_in_tail, outside_rows, doubled_row, with_zero, smaller_lead_first, greater_degree_first, RefusesLaterLeadInTail, RefusesEarlierLeadInTail, RefusesOutsideRows, RefusesDoubledRow, RefusesZero, RefusesWithoutThirdRow, RefusesSmallerLeadFirst, RefusesGreaterDegreeFirst}
 use Rattle.sf_groebner.specs.ReducedBases.{HasDividedLead, is_divided, lead_divides}
