@@ -69,7 +69,6 @@ pub mod LiftPropositions
 pub mod AddedParts
 pub mod GraphGenerators
 pub mod Decisions
-pub mod MatrixModules
 pub mod MatrixBases
 pub mod LiftExistence
 pub mod Rests
