@@ -21,7 +21,6 @@ pub use existence::{
     each_matrix_has_one_answer, each_vector_has_one_rest, each_vector_of_a_span_has_a_lift,
     reduced_bases_exist,
 };
-pub use existence::{each_matrix_has_one_answer, each_vector_has_one_rest, each_vector_of_a_span_has_a_lift, reduced_bases_exist};
 pub use graph::graph_parts;
 pub use lift::{coordinates_are_unique, lifts_are_unique};
 pub use minimal::{minimal_generators_are_chosen, minimal_generators_are_unique};
