@@ -84,3 +84,5 @@ pub mod PresentedModules
 pub mod SyzygyCombinations
 pub mod SumDecisions
 pub mod MinimalExistence
+pub mod PresentationExistence
+pub mod ResolutionExistence

@@ -19,3 +19,4 @@ pub mod ExistenceLaws
 pub mod Examples
 pub mod RefusedBases
 pub mod ResolutionExamples
+pub mod PresentationExistenceLaws

@@ -1,4 +1,5 @@
 ghost use Rattle.sf_groebner.specs.ExistenceLaws.{HasGraphBasis, HasSpanBasis, HasSyzygyBasis, HasAnswer, HasNoOtherAnswer, HasDivisions, HasOneRest, HasRestOutside, HasLifts};
+ghost use Rattle.sf_groebner.specs.PresentationExistenceLaws.{HasHomology, HasKernel, HasImage, HasCokernel, HasResolution};
 
 /// Modulo a prime the graph, the span and the syzygies of a matrix have reduced bases.
 pub fn reduced_bases_exist()
@@ -23,4 +24,14 @@ pub fn each_vector_has_one_rest()
 /// Modulo a prime each vector of a span has a lift.
 pub fn each_vector_of_a_span_has_a_lift()
     ensures exists { HasLifts }
+{}
+
+/// Modulo a prime the places of complexes have homology, maps have kernels, images and cokernels, and presented modules have
+/// resolutions of each length.
+pub fn presentations_exist()
+    ensures homology { HasHomology }
+    ensures kernel { HasKernel }
+    ensures image { HasImage }
+    ensures cokernel { HasCokernel }
+    ensures resolution { HasResolution }
 {}

@@ -19,7 +19,7 @@ pub use criterion::{pairs_decide_bases, pairs_give_syzygies};
 pub use examples::{refused_bases, resolutions_of_ideals, two_quadrics};
 pub use existence::{
     each_matrix_has_one_answer, each_vector_has_one_rest, each_vector_of_a_span_has_a_lift,
-    reduced_bases_exist,
+    presentations_exist, reduced_bases_exist,
 };
 pub use graph::graph_parts;
 pub use lift::{coordinates_are_unique, lifts_are_unique};

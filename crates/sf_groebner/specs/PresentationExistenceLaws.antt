@@ -1,0 +1,49 @@
+-- What presented modules have modulo a prime: homology, kernels, images, cokernels and resolutions. (Weibel, "An Introduction to
+-- Homological Algebra", sections 1.1 and 2.2.)
+use Rattle.std.specs.Prelude.{◌≡◌, ℕ, List, length}
+use Rattle.sf_algebra.specs.Matrices.{Matrix, row_degrees, IsMatrix}
+use Rattle.sf_algebra.specs.Primes.{IsPrime}
+use Rattle.sf_groebner.specs.Homology.{IsHomology, IsKernel, IsImage, IsCokernel}
+use Rattle.sf_groebner.specs.Presentations.{IsModuleMap}
+use Rattle.sf_groebner.specs.Resolutions.{IsResolution}
+
+-- the matrices that stand round a place are over one field, and their free modules meet
+pub record IsPlaceBetween (arriving here out beyond : Matrix) : Type 0 where
+  pub arriving_matrix : IsMatrix arriving
+  pub here_matrix : IsMatrix here
+  pub out_matrix : IsMatrix out
+  pub beyond_matrix : IsMatrix beyond
+  pub arriving_modulus : arriving.modulus ≡ here.modulus
+  pub out_modulus : out.modulus ≡ here.modulus
+  pub beyond_modulus : beyond.modulus ≡ here.modulus
+  pub arriving_target : arriving.target ≡ here.target
+  pub out_degrees : row_degrees out ≡ here.target
+  pub out_target : out.target ≡ beyond.target
+
+-- a place has homology
+abbrev pub HasHomology : Type 0
+HasHomology =
+    (arriving here out beyond : Matrix) → IsPrime here.modulus → IsPlaceBetween arriving here out beyond
+    → (generators : Matrix) × (relations : Matrix) × IsHomology arriving here out beyond generators relations
+
+-- a map has a kernel
+abbrev pub HasKernel : Type 0
+HasKernel =
+    (source target map : Matrix) → IsPrime source.modulus → IsMatrix source → IsMatrix target → IsModuleMap source target map
+    → (generators : Matrix) × (relations : Matrix) × IsKernel source target map generators relations
+
+-- an image
+abbrev pub HasImage : Type 0
+HasImage =
+    (source target map : Matrix) → IsPrime target.modulus → IsMatrix target → IsModuleMap source target map
+    → (generators : Matrix) × (relations : Matrix) × IsImage target map generators relations
+
+-- and a cokernel
+abbrev pub HasCokernel : Type 0
+HasCokernel =
+    (source target map : Matrix) → IsPrime target.modulus → IsMatrix target → IsModuleMap source target map
+    → (generators : Matrix) × (relations : Matrix) × IsCokernel target map generators relations
+
+-- a presented module has a resolution of each length
+abbrev pub HasResolution : Type 0
+HasResolution = (relations : Matrix) → IsPrime relations.modulus → IsMatrix relations → (n : ℕ) → (steps : List Matrix) × (length steps ≡ n) × IsResolution relations steps
