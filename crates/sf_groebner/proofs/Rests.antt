@@ -14,10 +14,11 @@ use Rattle.sf_algebra.proofs.Orders.{place_cmp_linear}
 use Rattle.sf_algebra.proofs.Rows.{IsCanonical-row_combination}
 use Rattle.sf_algebra.proofs.Sums.{add_assoc, add_comm, add-nil_first}
 use Rattle.sf_groebner.specs.ExistenceLaws.{IsDivision}
+use Rattle.sf_groebner.specs.Presentations.{IsReducedByRelations}
 use Rattle.sf_groebner.specs.ReducedBases.{HasDividedLead, IsReducedBasis}
 use Rattle.sf_groebner.specs.Spans.{InSpan}
 use Rattle.sf_groebner.proofs.Divisions.{divide}
-use Rattle.sf_groebner.proofs.MatrixBases.{basis-monic}
+use Rattle.sf_groebner.proofs.MatrixBases.{basis-monic, span_basis}
 use Rattle.sf_groebner.proofs.Modules.{difference}
 use Rattle.sf_groebner.proofs.Remainders.{IsReducedBy-none, same_reduced}
 use Rattle.sf_groebner.proofs.SpanCombinations.{row_combination-normal, span_submodule}
@@ -104,3 +105,27 @@ module _ (m : Matrix) (positive : 0 < m.modulus) (matrix : IsMatrix m) (basis : 
         (subst (HasDividedLead basis) back
         (h.complete (difference m.modulus v (taken quotients)) (submodule.module_like.differences v (taken quotients) inside (taken-inside rest quotients e) (sym e.quotients_degree)))),
   )
+
+-- a vector differs by one of the span from one that is reduced by the relations
+pub reduced_vector_exists : (m : Matrix) → IsPrime m.modulus → IsMatrix m → (v : Vector) → IsVector m.modulus m.target v
+    → (w : Vector) × IsVector m.modulus m.target w × (w.degree ≡ v.degree) × InSpan m (difference m.modulus v w) × IsReducedByRelations m w
+reduced_vector_exists m prime matrix v vector =
+    let positive : 0 < m.modulus = omega (arith, prime.above_one) in
+    let b = span_basis m prime matrix in
+    let basis : List Vector = b.0 in
+    let d = division_exists m prime matrix basis b.1 v vector in
+    let rest : Vector = d.0 in
+    let quotients : Vector = d.1 in
+    let e = d.2 in
+    let taken_terms : List (Term Place) = row_combination m.modulus basis quotients.terms in
+    let canonical : IsCanonical place_cmp m.modulus taken_terms = IsCanonical-row_combination m.modulus positive basis quotients.terms in
+    let terms : taken_terms ≡ add place_cmp m.modulus v.terms (negative m.modulus rest.terms) =
+    sym (add-negative_front place_keys m.modulus positive taken_terms rest.terms canonical e.rest_vector.canonical)
+    ∙ ap (λ ts. add place_cmp m.modulus ts (negative m.modulus rest.terms)) (add_comm place_cmp place_cmp_linear m.modulus positive taken_terms rest.terms ∙ e.sum) in (
+      rest,
+      e.rest_vector,
+      e.rest_degree,
+      subst (InSpan m) (λ i. record { degree = e.quotients_degree i; terms = terms i })
+      ((span_submodule m positive matrix).combinations basis b.1.inside quotients.degree quotients.terms e.coefficients.homogeneous),
+      record { basis = basis; reduced_basis = b.1; reduced = e.reduced },
+    )

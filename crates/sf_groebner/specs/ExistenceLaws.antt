@@ -3,11 +3,13 @@
 use Rattle.std.specs.Prelude.{◌≡◌, ◌↔◌, ℕ, ◌<◌, List, [], Option, Some, None, ℤ}
 use Rattle.sf_algebra.specs.Matrices.{Matrix, IsMatrix}
 use Rattle.sf_algebra.specs.MatrixOperations.{row_combination}
+use Rattle.sf_algebra.specs.Multiples.{negative}
 use Rattle.sf_algebra.specs.Primes.{IsPrime}
 use Rattle.sf_algebra.specs.Sums.{add}
 use Rattle.sf_algebra.specs.Vectors.{Vector, place_cmp, IsVector}
 use Rattle.sf_groebner.specs.Lifts.{IsLift}
 use Rattle.sf_groebner.specs.MinimalGenerators.{matrix_of}
+use Rattle.sf_groebner.specs.Presentations.{IsReducedByRelations}
 use Rattle.sf_groebner.specs.ReducedBases.{IsReducedBasis, IsReducedBy}
 use Rattle.sf_groebner.specs.Small.{IsSmall, IsLarge}
 use Rattle.sf_groebner.specs.Spans.{InSpan, IsCoefficients, IsGraphVector, IsSyzygy}
@@ -61,11 +63,18 @@ HasOneRest =
     → IsDivision m.modulus m.target basis v rest quotients → IsDivision m.modulus m.target basis v other others → rest ≡ other
 
 -- the rest is none exactly where the vector is in the span
-abbrev pub HasRestOutside : Type 0
-HasRestOutside =
+abbrev pub HasRestInside : Type 0
+HasRestInside =
     (m : Matrix) → 0 < m.modulus → IsMatrix m → (basis : List Vector) → IsReducedBasis (InSpan m) basis
     → (v : Vector) → IsVector m.modulus m.target v → (rest quotients : Vector)
     → IsDivision m.modulus m.target basis v rest quotients → rest.terms ≡ [] ↔ InSpan m v
+
+-- a vector differs by one of the span from one that is reduced by the relations
+abbrev pub HasReducedVector : Type 0
+HasReducedVector =
+    (m : Matrix) → IsPrime m.modulus → IsMatrix m → (v : Vector) → IsVector m.modulus m.target v
+    → (w : Vector) × IsVector m.modulus m.target w × (w.degree ≡ v.degree)
+    × InSpan m (record { degree = v.degree; terms = add place_cmp m.modulus v.terms (negative m.modulus w.terms) }) × IsReducedByRelations m w
 
 -- a vector of the span has a lift
 abbrev pub HasLifts : Type 0
