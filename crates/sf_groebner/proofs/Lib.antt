@@ -43,3 +43,6 @@ pub mod UniqueKept
 pub mod MonicSums
 pub mod KoszulSteps
 pub mod QuadricsSteps
+pub mod FreeRelations
+pub mod KoszulHomology
+pub mod KoszulCokernel

@@ -15,3 +15,4 @@ pub mod LiftLaws
 pub mod Examples
 pub mod RefusedBases
 pub mod ResolutionExamples
+pub mod HomologyExamples

@@ -11,7 +11,7 @@ mod lift;
 mod stack;
 
 pub use bases::reduced_bases_are_unique;
-pub use examples::{refused_bases, resolutions_of_ideals, two_quadrics};
+pub use examples::{koszul_homology, refused_bases, resolutions_of_ideals, two_quadrics};
 pub use graph::graph_parts;
 pub use lift::lifts_are_unique;
 pub use stack::stack_parts;
