@@ -79,14 +79,19 @@ module _ (m : Matrix) (is_matrix : IsMatrix m) (monic : AllByRecursion (IsMonicR
 
         pair_homogeneous : IsHomogeneous m.target f (row_combination m.modulus m.rows (pair_terms m.modulus (lead_at m.rows) i j))
         pair_homogeneous =
-            IsHomogeneous-row_combination m.target m.modulus m.rows rows_homogeneous f (pair_terms m.modulus (lead_at m.rows) i j)
-            ((within i i_in, of_pair),
-            ((within j j_in,
-            of_pair
-            ∙ place_degree-pair_place i j i_in
-            ∙ ap (place_degree m.target) (lcm_place-comm (lead_at m.rows) i j positions)
-            ∙ sym (place_degree-pair_place j i j_in)),
-            tt))
+            IsHomogeneous-row_combination m.target m.modulus m.rows rows_homogeneous f (pair_terms m.modulus (lead_at m.rows) i j) (
+              (within i i_in, of_pair),
+              (
+                (
+                  within j j_in,
+                  of_pair
+                      ∙ place_degree-pair_place i j i_in
+                      ∙ ap (place_degree m.target) (lcm_place-comm (lead_at m.rows) i j positions)
+                      ∙ sym (place_degree-pair_place j i j_in),
+                ),
+                tt,
+              ),
+            )
 
     -- the criterion up to degree d
     pub buchberger_up_to : (d : ℤ)

@@ -40,6 +40,8 @@ pub mod QuadricsGraph
 pub mod QuadricsParts
 pub mod RefusedLists
 pub mod UniqueKept
+pub mod UniquePresentations
+pub mod UniqueResolutions
 pub mod MonicSums
 pub mod KoszulSteps
 pub mod QuadricsSteps

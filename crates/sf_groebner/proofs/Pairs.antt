@@ -77,7 +77,7 @@ module _ (p : ℕ) (S : List (Term Place) → Type 0) (is_module : IsModule p S)
   -- all pairs of places, by the pairs of an earlier and a later row
   pub settled_pairs : 0 < p
       → ((j k : Place) → In j → In k → image lead j ≡ image lead k → j.position < k.position
-        → IsSettled p (λ u. In (place_product (cofactor lead j k) u)) lead S (pair_place lead j.position k.position) (pair_place lead k.position j.position))
+      → IsSettled p (λ u. In (place_product (cofactor lead j k) u)) lead S (pair_place lead j.position k.position) (pair_place lead k.position j.position))
       → IsAllSettled p In lead S
   settled_pairs positive pairs j k j_in k_in e =
       elim (cases_lt j.position k.position) [

@@ -108,7 +108,7 @@ module _ (p : ℕ) (positive : 0 < p) where
       -- the theorem for coefficients at the places in In
       pub schreyer_at : (In : Place → Type 0) → ((k : Place) → In k → k.position < length rows)
           → ((j k : Place) → In j → In k → image (lead_at rows) j ≡ image (lead_at rows) k → j.position < k.position
-            → IsSettled p (λ u. In (place_product (cofactor (lead_at rows) j k) u)) (lead_at rows) (IsSpanned p zs) (pair_place (lead_at rows) j.position k.position) (pair_place (lead_at rows) k.position j.position))
+          → IsSettled p (λ u. In (place_product (cofactor (lead_at rows) j k) u)) (lead_at rows) (IsSpanned p zs) (pair_place (lead_at rows) j.position k.position) (pair_place (lead_at rows) k.position j.position))
           → (c : List (Term Place)) → EachPlace In c → row_combination p rows c ≡ [] → IsSpanned p zs c
       schreyer_at In inside pairs c h none =
           ⊎_elim

@@ -16,3 +16,4 @@ pub mod Examples
 pub mod RefusedBases
 pub mod ResolutionExamples
 pub mod HomologyExamples
+pub mod PresentationLaws
