@@ -9,7 +9,7 @@ use Rattle.sf_algebra.specs.Sums.{normal, insert}
 use Rattle.sf_algebra.specs.Vectors.{Vector, IsVector}
 use Rattle.sf_groebner.specs.Criterion.{HaveLeadsAtOnePosition, ReducesToZero}
 use Rattle.sf_groebner.specs.Examples.{term, vector}
-use Rattle.sf_groebner.specs.MinimalGenerators.{AreMinimal, IsInSum, matrix_of}
+use Rattle.sf_groebner.specs.MinimalGenerators.{AreKept, AreMinimal, IsInSum, matrix_of}
 use Rattle.sf_groebner.specs.Presentations.{IsZero}
 use Rattle.sf_groebner.specs.ReducedBases.{IsReducedBasis}
 use Rattle.sf_groebner.specs.ResolutionExamples.{x_row, y_row, two_variables, koszul_row, koszul, HasKoszulResolution, RefusesOneVariable}
@@ -20,8 +20,8 @@ use Rattle.sf_groebner.proofs.MonicSums.{not_in_sum, no_syzygies}
 use Rattle.sf_groebner.proofs.Spans.{span_module}
 use Rattle.sf_groebner.proofs.UniqueKept.{unique_minimal}
 
-matrix : IsMatrix two_variables
-matrix = search (arith, ints)
+pub variables-matrix : IsMatrix two_variables
+variables-matrix = search (arith, ints)
 
 -- x and y with their coefficients, and the syzygy
 abbrev graph_rows : List Vector
@@ -57,11 +57,11 @@ candidate = record { values = refl; units = refl; inside = inside; monic = searc
 reduced : IsReducedBasis (IsGraphVector two_variables) rows
 reduced = reduced_graph two_variables (omega arith) graph_rows others candidate
 
-span : IsReducedBasis (InSpan two_variables) (x_row ∷ y_row ∷ [])
-span = reduced-span two_variables (omega arith) matrix rows reduced
+pub variables-span : IsReducedBasis (InSpan two_variables) (x_row ∷ y_row ∷ [])
+variables-span = reduced-span two_variables (omega arith) variables-matrix rows reduced
 
-syzygies : IsReducedBasis (IsSyzygy two_variables) (koszul_row ∷ [])
-syzygies = reduced-syzygies two_variables (omega arith) rows reduced
+pub variables-syzygies : IsReducedBasis (IsSyzygy two_variables) (koszul_row ∷ [])
+variables-syzygies = reduced-syzygies two_variables (omega arith) rows reduced
 
 -- no row is a sum of the earlier ones
 x_needed : IsInSum (matrix_of 101 (pos 0 ∷ []) []) IsZero x_row → ⊥
@@ -70,26 +70,32 @@ x_needed = not_in_sum 101 (omega arith) (pos 0 ∷ []) [] tt (λ i j h k e. absu
 y_needed : IsInSum (matrix_of 101 (pos 0 ∷ []) (x_row ∷ [])) IsZero y_row → ⊥
 y_needed = not_in_sum 101 (omega arith) (pos 0 ∷ []) (x_row ∷ []) (search arith) (λ i j h k e. absurd (omega (arith, h, k))) y_row (λ e. cc)
 
-koszul_needed : IsInSum (matrix_of 101 (pos 1 ∷ pos 1 ∷ []) []) IsZero koszul_row → ⊥
-koszul_needed = not_in_sum 101 (omega arith) (pos 1 ∷ pos 1 ∷ []) [] tt (λ i j h k e. absurd (omega (arith, k))) koszul_row (λ e. cc)
+pub koszul-needed : IsInSum (matrix_of 101 (pos 1 ∷ pos 1 ∷ []) []) IsZero koszul_row → ⊥
+koszul-needed = not_in_sum 101 (omega arith) (pos 1 ∷ pos 1 ∷ []) [] tt (λ i j h k e. absurd (omega (arith, k))) koszul_row (λ e. cc)
 
-variables_minimal : AreMinimal 101 (pos 0 ∷ []) (InSpan two_variables) IsZero (x_row ∷ y_row ∷ [])
-variables_minimal = record { basis = x_row ∷ y_row ∷ []; reduced = span; kept = inr (x_needed, (y_row ∷ [], refl, inr (y_needed, ([], refl, refl)))) }
+pub variables-kept : AreKept 101 (pos 0 ∷ []) IsZero [] (x_row ∷ y_row ∷ []) (x_row ∷ y_row ∷ [])
+variables-kept = inr (x_needed, (y_row ∷ [], refl, inr (y_needed, ([], refl, refl))))
+
+variables-minimal : AreMinimal 101 (pos 0 ∷ []) (InSpan two_variables) IsZero (x_row ∷ y_row ∷ [])
+variables-minimal = record { basis = x_row ∷ y_row ∷ []; reduced = variables-span; kept = variables-kept }
 
 koszul_minimal : AreMinimal 101 (pos 1 ∷ pos 1 ∷ []) (IsSyzygy two_variables) IsZero (koszul_row ∷ [])
-koszul_minimal = record { basis = koszul_row ∷ []; reduced = syzygies; kept = inr (koszul_needed, ([], refl, refl)) }
+koszul_minimal = record { basis = koszul_row ∷ []; reduced = variables-syzygies; kept = inr (koszul-needed, ([], refl, refl)) }
+
+pub koszul-end : IsReducedBasis (IsSyzygy koszul) []
+koszul-end = no_syzygies 101 (omega arith) (pos 1 ∷ pos 1 ∷ []) koszul_row (search arith)
 
 end_minimal : AreMinimal 101 (pos 2 ∷ []) (IsSyzygy koszul) IsZero []
-end_minimal = record { basis = []; reduced = no_syzygies 101 (omega arith) (pos 1 ∷ pos 1 ∷ []) koszul_row (search arith); kept = refl }
+end_minimal = record { basis = []; reduced = koszul-end; kept = refl }
 
 pub koszul-resolution : HasKoszulResolution
 koszul-resolution = (
-  record { modulus = refl; target = refl; minimal = variables_minimal },
+  record { modulus = refl; target = refl; minimal = variables-minimal },
   (record { modulus = refl; target = refl; minimal = koszul_minimal }, (record { modulus = refl; target = refl; minimal = end_minimal }, tt)),
 )
 
 pub refuses_one_variable : RefusesOneVariable
 refuses_one_variable h =
     let same : x_row ∷ [] ≡ x_row ∷ y_row ∷ [] =
-    unique_minimal 101 (omega arith) (pos 0 ∷ []) (InSpan two_variables) IsZero (span_module two_variables (omega arith) matrix) (x_row ∷ []) (x_row ∷ y_row ∷ []) h variables_minimal in
+    unique_minimal 101 (omega arith) (pos 0 ∷ []) (InSpan two_variables) IsZero (span_module two_variables (omega arith) variables-matrix) (x_row ∷ []) (x_row ∷ y_row ∷ []) h variables-minimal in
     cc

@@ -77,6 +77,8 @@ pub mod QuadricsGraph
 pub mod QuadricsParts
 pub mod RefusedLists
 pub mod UniqueKept
+pub mod UniquePresentations
+pub mod UniqueResolutions
 pub mod MonicSums
 pub mod KoszulSteps
 pub mod QuadricsSteps
@@ -86,3 +88,6 @@ pub mod SumDecisions
 pub mod MinimalExistence
 pub mod PresentationExistence
 pub mod ResolutionExistence
+pub mod FreeRelations
+pub mod KoszulHomology
+pub mod KoszulCokernel

@@ -20,3 +20,4 @@ pub mod Examples
 pub mod RefusedBases
 pub mod ResolutionExamples
 pub mod PresentationExistenceLaws
+pub mod HomologyExamples

@@ -1,6 +1,7 @@
 ghost use Rattle.sf_groebner.specs.Examples.{IsQuadricsMatrix, HasQuadricsGraphBasis, HasQuadricsBasis, HasQuadricsSyzygy, HasThirdRowLift, HasSmallQuadrics, HasLargeQuadrics, RefusesOtherCoefficients, RefusesUnitAsSyzygy};
 ghost use Rattle.sf_groebner.specs.RefusedBases.{RefusesLaterLeadInTail, RefusesEarlierLeadInTail, RefusesOutsideRows, RefusesDoubledRow, RefusesZero, RefusesWithoutThirdRow, RefusesSmallerLeadFirst, RefusesGreaterDegreeFirst};
 ghost use Rattle.sf_groebner.specs.ResolutionExamples.{HasKoszulResolution, RefusesOneVariable, HasQuadricsResolution, RefusesThirdRow};
+ghost use Rattle.sf_groebner.specs.HomologyExamples.{HasNoKoszulHomology, HasKoszulKernel, HasKoszulCokernel, RefusesNoCokernel};
 
 /// The ideal of x^2 and x y + y^2: its graph, its reduced basis, its syzygies and a lift.
 pub fn two_quadrics()
@@ -33,4 +34,12 @@ pub fn resolutions_of_ideals()
     ensures one_variable { RefusesOneVariable }
     ensures quadrics { HasQuadricsResolution }
     ensures third_row { RefusesThirdRow }
+{}
+
+/// The homology of the Koszul complex of two variables: none in the middle, and the field of scalars at the end.
+pub fn koszul_homology()
+    ensures middle { HasNoKoszulHomology }
+    ensures kernel { HasKoszulKernel }
+    ensures cokernel { HasKoszulCokernel }
+    ensures not_zero { RefusesNoCokernel }
 {}

@@ -25,4 +25,7 @@ pub use graph::graph_parts;
 pub use lift::{coordinates_are_unique, lifts_are_unique};
 pub use minimal::{minimal_generators_are_chosen, minimal_generators_are_unique};
 pub use presentation::{presentations_are_matrices, presentations_are_unique};
+pub use examples::{koszul_homology, refused_bases, resolutions_of_ideals, two_quadrics};
+pub use lift::lifts_are_unique;
+pub use presentation::presentations_are_unique;
 pub use stack::stack_parts;

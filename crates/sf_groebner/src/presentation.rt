@@ -1,16 +1,10 @@
-ghost use Rattle.sf_groebner.specs.PresentationLaws.{HasOneHomology, HasOneKernel, HasOneImage, HasOneCokernel, HasOneResolution, HasMatrixHomology, HasMatrixSteps};
+ghost use Rattle.sf_groebner.specs.PresentationLaws.{HasOneResolution, HasOneKernel, HasOneImage, HasOneCokernel, HasOneHomology};
 
-/// The canonical presentations and resolutions are determined by the matrices from which they are taken.
+/// Presentations and resolutions by minimal generators are unique.
 pub fn presentations_are_unique()
+    ensures resolutions { HasOneResolution }
+    ensures kernels { HasOneKernel }
+    ensures images { HasOneImage }
+    ensures cokernels { HasOneCokernel }
     ensures homology { HasOneHomology }
-    ensures kernel { HasOneKernel }
-    ensures image { HasOneImage }
-    ensures cokernel { HasOneCokernel }
-    ensures resolution { HasOneResolution }
-{}
-
-/// Generators, relations and the steps of resolutions are graded matrices.
-pub fn presentations_are_matrices()
-    ensures homology { HasMatrixHomology }
-    ensures resolution { HasMatrixSteps }
 {}
