@@ -23,7 +23,8 @@ use Rattle.sf_groebner.proofs.KoszulSteps.{variables-matrix, variables-span, var
 use Rattle.sf_groebner.proofs.PlaceDivisors.{Decides-place_divides}
 use Rattle.sf_groebner.proofs.SameModules.{IsReducedBasis-same}
 use Rattle.sf_groebner.proofs.Spans.{span_module, IsVector-difference}
-use Rattle.sf_groebner.proofs.UniqueKept.{unique_minimal}
+use Rattle.sf_groebner.proofs.MinimalGenerators.{unique_minimal}
+use Rattle.sf_groebner.proofs.UniqueBases.{unique_reduced}
 
 abbrev unit_row : Vector
 unit_row = unit_vector (pos 0) 0
@@ -90,6 +91,7 @@ koszul-cokernel = record {
 pub refuses_no_cokernel : RefusesNoCokernel
 refuses_no_cokernel others h =
     let same : [] ≡ unit_row ∷ [] =
-    unique_minimal 101 (omega arith) (pos 0 ∷ []) (IsAny 101 (pos 0 ∷ [])) (InSpan two_variables)
-    (record { vectors = λ v k. k; differences = λ u v k l e. IsVector-difference 101 (omega arith) (pos 0 ∷ []) u v k l e }) [] (unit_row ∷ []) h.generators_minimal generators in
+    unique_minimal 101 (pos 0 ∷ []) (IsAny 101 (pos 0 ∷ [])) (InSpan two_variables)
+    (unique_reduced 101 (omega arith) (pos 0 ∷ []) (IsAny 101 (pos 0 ∷ []))
+    (record { vectors = λ v k. k; differences = λ u v k l e. IsVector-difference 101 (omega arith) (pos 0 ∷ []) u v k l e })) [] (unit_row ∷ []) h.generators_minimal generators in
     cc

@@ -18,7 +18,8 @@ use Rattle.sf_groebner.proofs.GraphBases.{IsGraphCandidate, reduced_graph}
 use Rattle.sf_groebner.proofs.GraphParts.{reduced-span, reduced-syzygies}
 use Rattle.sf_groebner.proofs.MonicSums.{not_in_sum, no_syzygies}
 use Rattle.sf_groebner.proofs.Spans.{span_module}
-use Rattle.sf_groebner.proofs.UniqueKept.{unique_minimal}
+use Rattle.sf_groebner.proofs.MinimalGenerators.{unique_minimal}
+use Rattle.sf_groebner.proofs.UniqueBases.{unique_reduced}
 
 pub variables-matrix : IsMatrix two_variables
 variables-matrix = search (arith, ints)
@@ -97,5 +98,5 @@ koszul-resolution = (
 pub refuses_one_variable : RefusesOneVariable
 refuses_one_variable h =
     let same : x_row ∷ [] ≡ x_row ∷ y_row ∷ [] =
-    unique_minimal 101 (omega arith) (pos 0 ∷ []) (InSpan two_variables) IsZero (span_module two_variables (omega arith) variables-matrix) (x_row ∷ []) (x_row ∷ y_row ∷ []) h variables-minimal in
+    unique_minimal 101 (pos 0 ∷ []) (InSpan two_variables) IsZero (unique_reduced 101 (omega arith) (pos 0 ∷ []) (InSpan two_variables) (span_module two_variables (omega arith) variables-matrix)) (x_row ∷ []) (x_row ∷ y_row ∷ []) h variables-minimal in
     cc

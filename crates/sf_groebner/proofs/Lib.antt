@@ -76,9 +76,6 @@ pub mod GraphBases
 pub mod QuadricsGraph
 pub mod QuadricsParts
 pub mod RefusedLists
-pub mod UniqueKept
-pub mod UniquePresentations
-pub mod UniqueResolutions
 pub mod MonicSums
 pub mod KoszulSteps
 pub mod QuadricsSteps

@@ -10,7 +10,8 @@ use Rattle.sf_groebner.proofs.MonicSums.{not_in_sum, no_syzygies}
 use Rattle.sf_groebner.proofs.QuadricsGraph.{quadrics-matrix}
 use Rattle.sf_groebner.proofs.QuadricsParts.{quadrics-span, quadrics-syzygies}
 use Rattle.sf_groebner.proofs.Spans.{span_module}
-use Rattle.sf_groebner.proofs.UniqueKept.{unique_minimal}
+use Rattle.sf_groebner.proofs.MinimalGenerators.{unique_minimal}
+use Rattle.sf_groebner.proofs.UniqueBases.{unique_reduced}
 
 first_needed : IsInSum (matrix_of 101 (pos 0 ∷ []) []) IsZero first_row → ⊥
 first_needed = not_in_sum 101 (omega arith) (pos 0 ∷ []) [] tt (λ i j h k e. absurd (omega (arith, k))) first_row (λ e. cc)
@@ -48,5 +49,5 @@ quadrics-resolution = (
 pub refuses_third_row : RefusesThirdRow
 refuses_third_row h =
     let same : first_row ∷ second_row ∷ third_row ∷ [] ≡ first_row ∷ second_row ∷ [] =
-    unique_minimal 101 (omega arith) (pos 0 ∷ []) (InSpan quadrics) IsZero (span_module quadrics (omega arith) quadrics-matrix) (first_row ∷ second_row ∷ third_row ∷ []) (first_row ∷ second_row ∷ []) h quadrics_minimal in
+    unique_minimal 101 (pos 0 ∷ []) (InSpan quadrics) IsZero (unique_reduced 101 (omega arith) (pos 0 ∷ []) (InSpan quadrics) (span_module quadrics (omega arith) quadrics-matrix)) (first_row ∷ second_row ∷ third_row ∷ []) (first_row ∷ second_row ∷ []) h quadrics_minimal in
     cc

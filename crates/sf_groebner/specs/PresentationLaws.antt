@@ -1,36 +1,50 @@
--- What holds of presentations and resolutions by minimal generators: they are one list of matrices. (Textbook; that the choice is
--- canonical is this project's own.)
+-- What holds of presentations: each is determined by its matrices. (Weibel, "An Introduction to Homological Algebra", sections 1.1
+-- and 2.2.)
 use Rattle.std.specs.Prelude.{◌≡◌, ◌<◌, List, length}
-use Rattle.sf_algebra.specs.Matrices.{Matrix, IsMatrix}
-use Rattle.sf_groebner.specs.Homology.{IsCokernel, IsHomology, IsImage, IsKernel}
-use Rattle.sf_groebner.specs.Presentations.{IsModuleMap}
+use Rattle.std.specs.List.{AllByRecursion}
+use Rattle.sf_algebra.specs.Matrices.{Matrix, row_degrees, IsMatrix}
+use Rattle.sf_algebra.specs.MatrixOperations.{stacked}
+use Rattle.sf_groebner.specs.Homology.{IsHomology, IsKernel, IsImage, IsCokernel}
 use Rattle.sf_groebner.specs.Resolutions.{IsResolution}
 
--- the relations of a module have one resolution of each length
-abbrev pub HasOneResolution : Type 0
-HasOneResolution = (m : Matrix) → 0 < m.modulus → IsMatrix m → (a b : List Matrix) → length a ≡ length b → IsResolution m a → IsResolution m b → a ≡ b
-
--- generators and relations are those of at most one presentation
-abbrev pub AreOne : (Matrix → Matrix → Type 0) → Type 0
-AreOne IsOne = (generators relations others more : Matrix) → IsOne generators relations → IsOne others more → (generators ≡ others) × (relations ≡ more)
-
--- a map between presented modules, modulo a number other than 0
-pub record IsMapOfModules (source target map : Matrix) : Type 0 where
-  pub positive : 0 < map.modulus
-  pub source_matrix : IsMatrix source
-  pub target_matrix : IsMatrix target
-  pub is_map : IsModuleMap source target map
-
-abbrev pub HasOneKernel : Type 0
-HasOneKernel = (source target map : Matrix) → IsMapOfModules source target map → AreOne (IsKernel source target map)
-
-abbrev pub HasOneImage : Type 0
-HasOneImage = (source target map : Matrix) → IsMapOfModules source target map → AreOne (IsImage target map)
-
-abbrev pub HasOneCokernel : Type 0
-HasOneCokernel = (source target map : Matrix) → IsMapOfModules source target map → AreOne (IsCokernel target map)
-
--- of two maps that meet, whether or not their composition is 0
+-- a place of a complex has at most one homology
 abbrev pub HasOneHomology : Type 0
 HasOneHomology =
-    (before here beyond arriving out : Matrix) → IsMapOfModules before here arriving → IsMapOfModules here beyond out → AreOne (IsHomology arriving here out beyond)
+    (arriving here out beyond : Matrix) → 0 < here.modulus → arriving.modulus ≡ here.modulus → out.modulus ≡ here.modulus → beyond.modulus ≡ here.modulus
+    → IsMatrix (stacked arriving here) → IsMatrix beyond → (g r h s : Matrix) → IsHomology arriving here out beyond g r → IsHomology arriving here out beyond h s
+    → (g ≡ h) × (r ≡ s)
+
+-- a map has at most one kernel
+abbrev pub HasOneKernel : Type 0
+HasOneKernel =
+    (source target map : Matrix) → 0 < source.modulus → map.modulus ≡ source.modulus → target.modulus ≡ source.modulus
+    → IsMatrix source → IsMatrix target → (g r h s : Matrix) → IsKernel source target map g r → IsKernel source target map h s → (g ≡ h) × (r ≡ s)
+
+-- one image
+abbrev pub HasOneImage : Type 0
+HasOneImage =
+    (target map : Matrix) → 0 < target.modulus → map.modulus ≡ target.modulus → IsMatrix (stacked map target) → IsMatrix target
+    → (g r h s : Matrix) → IsImage target map g r → IsImage target map h s → (g ≡ h) × (r ≡ s)
+
+-- and one cokernel
+abbrev pub HasOneCokernel : Type 0
+HasOneCokernel =
+    (target map : Matrix) → 0 < target.modulus → map.modulus ≡ target.modulus → IsMatrix (stacked map target)
+    → (g r h s : Matrix) → IsCokernel target map g r → IsCokernel target map h s → (g ≡ h) × (r ≡ s)
+
+-- a presented module has at most one resolution of each length
+abbrev pub HasOneResolution : Type 0
+HasOneResolution =
+    (relations : Matrix) → 0 < relations.modulus → IsMatrix relations → (a b : List Matrix) → length a ≡ length b → IsResolution relations a → IsResolution relations b
+    → a ≡ b
+
+-- generators and relations of a homology are matrices, where the coefficients of `out` are vectors over the target of `here`
+abbrev pub HasMatrixHomology : Type 0
+HasMatrixHomology =
+    (arriving here out beyond : Matrix) → out.modulus ≡ here.modulus → row_degrees out ≡ here.target
+    → (g r : Matrix) → IsHomology arriving here out beyond g r → IsMatrix g × IsMatrix r
+
+-- the steps of a resolution are matrices
+abbrev pub HasMatrixSteps : Type 0
+HasMatrixSteps =
+    (relations : Matrix) → 0 < relations.modulus → IsMatrix relations → (steps : List Matrix) → IsResolution relations steps → AllByRecursion IsMatrix steps

@@ -16,7 +16,7 @@ mod stack;
 
 pub use bases::reduced_bases_are_unique;
 pub use criterion::{pairs_decide_bases, pairs_give_syzygies};
-pub use examples::{refused_bases, resolutions_of_ideals, two_quadrics};
+pub use examples::{koszul_homology, refused_bases, resolutions_of_ideals, two_quadrics};
 pub use existence::{
     each_matrix_has_one_answer, each_vector_has_one_rest, each_vector_of_a_span_has_a_lift,
     presentations_exist, reduced_bases_exist,
@@ -25,7 +25,4 @@ pub use graph::graph_parts;
 pub use lift::{coordinates_are_unique, lifts_are_unique};
 pub use minimal::{minimal_generators_are_chosen, minimal_generators_are_unique};
 pub use presentation::{presentations_are_matrices, presentations_are_unique};
-pub use examples::{koszul_homology, refused_bases, resolutions_of_ideals, two_quadrics};
-pub use lift::lifts_are_unique;
-pub use presentation::presentations_are_unique;
 pub use stack::stack_parts;

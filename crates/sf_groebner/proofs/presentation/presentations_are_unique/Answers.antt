@@ -1,6 +1,6 @@
-use Rattle.sf_groebner.proofs.UniquePresentations.{unique_cokernel, unique_homology, unique_image, unique_kernel}
-use Rattle.sf_groebner.proofs.UniqueResolutions.{unique_resolution}
+use Rattle.sf_groebner.proofs.Homology.{unique_homology, unique_kernel, unique_image, unique_cokernel}
+use Rattle.sf_groebner.proofs.Presentations.{unique_resolution}
 use Rattle.sf_groebner.proofs.presentation.presentations_are_unique.Goals as goal
 
 pub returns : goal.returns
-returns c = record { resolutions = unique_resolution; kernels = unique_kernel; images = unique_image; cokernels = unique_cokernel; homology = unique_homology }
+returns c = record { homology = unique_homology; kernel = unique_kernel; image = unique_image; cokernel = unique_cokernel; resolution = unique_resolution }
