@@ -34,7 +34,7 @@ relation_basis a b prime moduli targets h k =
     let s = syzygy_basis m prime (IsMatrix-stacked a b moduli targets h k) in (
       _,
       IsReducedBasis-same (IsFirstBlock a b) (IsRelation a (InSpan b)) (λ v. (IsRelation-blocks a b positive moduli v).1) (λ v. (IsRelation-blocks a b positive moduli v).0) _
-      (reduced-first_parts m.modulus (row_degrees m) (IsSyzygy m) (λ w l. l.coefficients) (length a.rows) s.0 s.1),
+          (reduced-first_parts m.modulus (row_degrees m) (IsSyzygy m) (λ w l. l.coefficients) (length a.rows) s.0 s.1),
     )
 
 -- all vectors of a free module
@@ -46,8 +46,8 @@ any_basis p prime degrees =
     let s = span_basis m prime matrix in (
       s.0,
       IsReducedBasis-same (InSpan m) (IsAny p degrees) (span_module m positive matrix).vectors
-      (λ v h. (v, subst (λ ds. IsVector p ds v) (sym (row_degrees-identity p degrees)) h, (λ i. record { degree = v.degree; terms = row_combination-identity p positive degrees v h i })))
-      s.0 s.1,
+          (λ v h. (v, subst (λ ds. IsVector p ds v) (sym (row_degrees-identity p degrees)) h, (λ i. record { degree = v.degree; terms = row_combination-identity p positive degrees v h i })))
+          s.0 s.1,
     )
 
 module _ (p : ℕ) (prime : IsPrime p) (target : List ℤ) (N : Vector → Type 0) (vectors : (v : Vector) → N v → IsVector p target v) (basis : HasBasis N) where

@@ -126,6 +126,6 @@ reduced_vector_exists m prime matrix v vector =
       e.rest_vector,
       e.rest_degree,
       subst (InSpan m) (λ i. record { degree = e.quotients_degree i; terms = terms i })
-      ((span_submodule m positive matrix).combinations basis b.1.inside quotients.degree quotients.terms e.coefficients.homogeneous),
+          ((span_submodule m positive matrix).combinations basis b.1.inside quotients.degree quotients.terms e.coefficients.homogeneous),
       record { basis = basis; reduced_basis = b.1; reduced = e.reduced },
     )
