@@ -37,6 +37,7 @@ pub mod GraphParts
 pub mod Remainders
 pub mod Lifts
 pub mod GraphLifts
+pub mod StackedSpans
 pub mod Relations
 pub mod Representations
 pub mod SyzygySpans
