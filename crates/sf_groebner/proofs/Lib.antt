@@ -60,6 +60,9 @@ pub mod FewerSyzygies
 pub mod MinimalGenerators
 pub mod Presentations
 pub mod Homology
+pub mod EqualModulo
+pub mod Squares
+pub mod ChainMaps
 pub mod SumsAndMultiples
 pub mod KeptGenerators
 pub mod PendingDegrees
