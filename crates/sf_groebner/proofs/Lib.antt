@@ -37,6 +37,7 @@ pub mod GraphParts
 pub mod Remainders
 pub mod Lifts
 pub mod GraphLifts
+pub mod StackedSpans
 pub mod Relations
 pub mod Representations
 pub mod SyzygySpans
@@ -59,6 +60,9 @@ pub mod FewerSyzygies
 pub mod MinimalGenerators
 pub mod Presentations
 pub mod Homology
+pub mod EqualModulo
+pub mod Squares
+pub mod ChainMaps
 pub mod SumsAndMultiples
 pub mod KeptGenerators
 pub mod PendingDegrees

@@ -1,6 +1,6 @@
 -- The relations of generators modulo a span are the first blocks of the syzygies of a stack.
-use Rattle.std.proofs.Common.{◌≡◌, ◌<◌, ◌+◌, List, [], ◌++◌, length, refl, sym, ◌∙◌, ap, subst, arith}
-use Rattle.std.proofs.lemmas.List.{length-append, length-map}
+use Rattle.std.proofs.Common.{◌≡◌, ◌<◌, ◌+◌, List, [], ◌++◌, length, sym, ◌∙◌, ap, subst}
+use Rattle.std.proofs.lemmas.List.{length-map}
 use Rattle.sf_algebra.specs.Matrices.{Matrix, row_degrees}
 use Rattle.sf_algebra.specs.MatrixOperations.{part_terms, row_combination, stacked}
 use Rattle.sf_algebra.specs.Multiples.{negative}
@@ -9,99 +9,65 @@ use Rattle.sf_algebra.specs.Terms.{Term, IsCanonical}
 use Rattle.sf_algebra.specs.Vectors.{Place, Vector, place_cmp, IsVector}
 use Rattle.sf_algebra.proofs.HomogeneousVectors.{IsVector-negative}
 use Rattle.sf_algebra.proofs.Keys.{place_keys}
-use Rattle.sf_algebra.proofs.MatrixRows.{IsWithin}
 use Rattle.sf_algebra.proofs.Negatives.{IsCanonical-negative, add-negative, negative-negative}
-use Rattle.sf_algebra.proofs.PartTerms.{IsVector-part_terms}
-use Rattle.sf_algebra.proofs.Ranges.{slice_range-first, slice_range-second}
 use Rattle.sf_algebra.proofs.Rows.{IsCanonical-row_combination, row_combination-negative}
 use Rattle.sf_algebra.proofs.StackedRows.{row_combination-stacked}
-use Rattle.sf_algebra.proofs.Stacks.{row_degrees-stacked}
-use Rattle.sf_groebner.specs.Cuts.{part_of, IsFirstBlock}
+use Rattle.sf_groebner.specs.Cuts.{IsFirstBlock}
 use Rattle.sf_groebner.specs.Presentations.{IsRelation}
 use Rattle.sf_groebner.specs.Spans.{InSpan, IsSyzygy}
 use Rattle.sf_groebner.proofs.Differences.{add-negative_same}
 use Rattle.sf_groebner.proofs.GraphParts.{IsWithin-coefficients}
-use Rattle.sf_groebner.proofs.PairedVectors.{pair_terms, pair_terms-parts, part_terms-pair_first, IsVector-pair}
+use Rattle.sf_groebner.proofs.PairedVectors.{pair_terms, part_terms-pair_first, IsVector-pair}
+use Rattle.sf_groebner.proofs.StackedSpans.{stack_coefficients, first_coefficients, last_coefficients, row_combination-blocks}
 
-module _ (a b : Matrix) where
-  stack_coefficients : (c : Vector) → IsVector a.modulus (row_degrees a ++ row_degrees b) c → IsVector a.modulus (row_degrees (stacked a b)) c
-  stack_coefficients c h = subst (λ ds. IsVector a.modulus ds c) (sym (row_degrees-stacked a b)) h
+module _ (a b : Matrix) (positive : 0 < a.modulus) (moduli : a.modulus ≡ b.modulus) where
+  relation_from_block : (v : Vector) → IsFirstBlock a b v → IsRelation a (InSpan b) v
+  relation_from_block v h = subst (IsRelation a (InSpan b)) h.2 (record {
+    coefficients = first_coefficients a b h.0 h.1.coefficients;
+    inside = (
+      record { degree = h.0.degree; terms = negative a.modulus (others h.0) },
+      subst (λ p. IsVector p (row_degrees b) (record { degree = h.0.degree; terms = negative a.modulus (others h.0) })) moduli
+          (IsVector-negative a.modulus (row_degrees b) h.0.degree (others h.0) (last_coefficients a b h.0 h.1.coefficients)),
+      (λ i. record { degree = h.0.degree; terms = (ap (λ p. row_combination p b.rows (negative a.modulus (others h.0))) (sym moduli) ∙ same h.0 h.1) i }),
+    );
+  })
+    where
+      others : Vector → List (Term Place)
+      others c = part_terms (length a.rows) (length a.rows + length b.rows) c.terms
 
-  blocks : (c : Vector) → IsSyzygy (stacked a b) c → IsVector a.modulus (row_degrees a ++ row_degrees b) c
-  blocks c h = subst (λ ds. IsVector a.modulus ds c) (row_degrees-stacked a b) h.coefficients
+      same : (c : Vector) → IsSyzygy (stacked a b) c → row_combination a.modulus b.rows (negative a.modulus (others c)) ≡ row_combination a.modulus a.rows (part_terms 0 (length a.rows) c.terms)
+      same c k =
+          let last = last_coefficients a b c k.coefficients in
+          let first = row_combination a.modulus a.rows (part_terms 0 (length a.rows) c.terms) in
+          let second = row_combination a.modulus b.rows (others c) in
+          let canonical : IsCanonical place_cmp a.modulus second = IsCanonical-row_combination a.modulus positive b.rows (others c) in
+          row_combination-negative a.modulus positive b.rows (others c) last.canonical
+          ∙ sym (add-negative_same place_keys a.modulus positive first (negative a.modulus second)
+          (IsCanonical-row_combination a.modulus positive a.rows (part_terms 0 (length a.rows) c.terms)) (IsCanonical-negative place_cmp a.modulus second canonical)
+          (ap (add place_cmp a.modulus first) (negative-negative place_cmp a.modulus second canonical.residues) ∙ row_combination-blocks a b positive c k.coefficients ∙ k.zero))
 
-  -- the coefficients of the first rows, and those of the others
-  first_coefficients : (c : Vector) → IsSyzygy (stacked a b) c → IsVector a.modulus (row_degrees a) (part_of 0 (length a.rows) c)
-  first_coefficients c h =
-      subst (λ ds. IsVector a.modulus ds (part_of 0 (length a.rows) c)) (slice_range-first (row_degrees a) (row_degrees b) (length a.rows) (length-map a.rows (λ (v : Vector). v.degree)))
-      (IsVector-part_terms a.modulus (row_degrees a ++ row_degrees b) 0 (length a.rows) c (blocks c h))
+  block_from_relation : (v : Vector) → IsRelation a (InSpan b) v → IsFirstBlock a b v
+  block_from_relation v h =
+      let d = h.inside.0 in
+      let p = a.modulus in
+      let within = IsWithin-coefficients a v h.coefficients in
+      let degree : d.degree ≡ v.degree = ap (λ x. x.degree) h.inside.2 in
+      let coefficients : IsVector p (row_degrees b) (record { degree = v.degree; terms = negative p d.terms }) =
+      IsVector-negative p (row_degrees b) v.degree d.terms
+      (subst (λ e. IsVector p (row_degrees b) (record { degree = e; terms = d.terms })) degree (subst (λ q. IsVector q (row_degrees b) d) (sym moduli) h.inside.1)) in
+      let pair : IsVector p (row_degrees a ++ row_degrees b) (record { degree = v.degree; terms = pair_terms (length a.rows) v.terms (negative p d.terms) }) =
+      subst (λ n. IsVector p (row_degrees a ++ row_degrees b) (record { degree = v.degree; terms = pair_terms n v.terms (negative p d.terms) })) (length-map a.rows (λ (x : Vector). x.degree))
+      (IsVector-pair (row_degrees a) (row_degrees b) v.degree p v.terms (negative p d.terms) h.coefficients coefficients) in
+      let canonical : IsCanonical place_cmp p d.terms = subst (λ q. IsCanonical place_cmp q d.terms) (sym moduli) h.inside.1.canonical in
+      let value : row_combination p b.rows d.terms ≡ row_combination p a.rows v.terms = ap (λ q. row_combination q b.rows d.terms) moduli ∙ ap (λ x. x.terms) h.inside.2 in
+      let zero : row_combination p (a.rows ++ b.rows) (pair_terms (length a.rows) v.terms (negative p d.terms)) ≡ [] =
+      row_combination-stacked p positive a.rows b.rows v.terms (negative p d.terms) within
+      ∙ ap (add place_cmp p (row_combination p a.rows v.terms)) (row_combination-negative p positive b.rows d.terms canonical ∙ ap (negative p) value)
+      ∙ add-negative place_keys p positive (row_combination p a.rows v.terms) (IsCanonical-row_combination p positive a.rows v.terms) in (
+        record { degree = v.degree; terms = pair_terms (length a.rows) v.terms (negative p d.terms) },
+        record { coefficients = stack_coefficients a b _ pair; zero = zero },
+        (λ i. record { degree = v.degree; terms = part_terms-pair_first (length a.rows) v.terms (negative p d.terms) within i }),
+      )
 
-  last_coefficients : (c : Vector) → IsSyzygy (stacked a b) c → IsVector a.modulus (row_degrees b) (part_of (length a.rows) (length a.rows + length b.rows) c)
-  last_coefficients c h =
-      subst (λ ds. IsVector a.modulus ds (part_of (length a.rows) (length a.rows + length b.rows) c))
-      (slice_range-second (row_degrees a) (row_degrees b) (length a.rows) (length a.rows + length b.rows) (length-map a.rows (λ (v : Vector). v.degree)) (rw length-map (omega arith)))
-      (IsVector-part_terms a.modulus (row_degrees a ++ row_degrees b) (length a.rows) (length a.rows + length b.rows) c (blocks c h))
-
-  module _ (positive : 0 < a.modulus) where
-    -- a combination of stacked rows, by blocks
-    pub row_combination-blocks : (c : Vector) → IsSyzygy (stacked a b) c
-        → add place_cmp a.modulus (row_combination a.modulus a.rows (part_terms 0 (length a.rows) c.terms)) (row_combination a.modulus b.rows (part_terms (length a.rows) (length a.rows + length b.rows) c.terms)) ≡ []
-    row_combination-blocks c h =
-        let within : IsWithin (length a.rows + length b.rows) c.terms =
-        subst (λ n. IsWithin n c.terms) (let size : length (a.rows ++ b.rows) ≡ length a.rows + length b.rows = rw length-append refl in size) (IsWithin-coefficients (stacked a b) c h.coefficients) in
-        sym (row_combination-stacked a.modulus positive a.rows b.rows (part_terms 0 (length a.rows) c.terms) (part_terms (length a.rows) (length a.rows + length b.rows) c.terms)
-        (IsWithin-coefficients a (part_of 0 (length a.rows) c) (first_coefficients c h)))
-        ∙ ap (row_combination a.modulus (a.rows ++ b.rows)) (pair_terms-parts (length a.rows) (length b.rows) c.terms h.coefficients.canonical.descending within)
-        ∙ h.zero
-
-    module _ (moduli : a.modulus ≡ b.modulus) where
-      relation_from_block : (v : Vector) → IsFirstBlock a b v → IsRelation a (InSpan b) v
-      relation_from_block v h = subst (IsRelation a (InSpan b)) h.2 (record {
-        coefficients = first_coefficients h.0 h.1;
-        inside = (
-          record { degree = h.0.degree; terms = negative a.modulus (others h.0) },
-          subst (λ p. IsVector p (row_degrees b) (record { degree = h.0.degree; terms = negative a.modulus (others h.0) })) moduli
-              (IsVector-negative a.modulus (row_degrees b) h.0.degree (others h.0) (last_coefficients h.0 h.1)),
-          (λ i. record { degree = h.0.degree; terms = (ap (λ p. row_combination p b.rows (negative a.modulus (others h.0))) (sym moduli) ∙ same h.0 h.1) i }),
-        );
-      })
-        where
-          others : Vector → List (Term Place)
-          others c = part_terms (length a.rows) (length a.rows + length b.rows) c.terms
-
-          same : (c : Vector) → IsSyzygy (stacked a b) c → row_combination a.modulus b.rows (negative a.modulus (others c)) ≡ row_combination a.modulus a.rows (part_terms 0 (length a.rows) c.terms)
-          same c k =
-              let last = last_coefficients c k in
-              let first = row_combination a.modulus a.rows (part_terms 0 (length a.rows) c.terms) in
-              let second = row_combination a.modulus b.rows (others c) in
-              let canonical : IsCanonical place_cmp a.modulus second = IsCanonical-row_combination a.modulus positive b.rows (others c) in
-              row_combination-negative a.modulus positive b.rows (others c) last.canonical
-              ∙ sym (add-negative_same place_keys a.modulus positive first (negative a.modulus second)
-              (IsCanonical-row_combination a.modulus positive a.rows (part_terms 0 (length a.rows) c.terms)) (IsCanonical-negative place_cmp a.modulus second canonical)
-              (ap (add place_cmp a.modulus first) (negative-negative place_cmp a.modulus second canonical.residues) ∙ row_combination-blocks c k))
-
-      block_from_relation : (v : Vector) → IsRelation a (InSpan b) v → IsFirstBlock a b v
-      block_from_relation v h =
-          let d = h.inside.0 in
-          let p = a.modulus in
-          let within = IsWithin-coefficients a v h.coefficients in
-          let degree : d.degree ≡ v.degree = ap (λ x. x.degree) h.inside.2 in
-          let coefficients : IsVector p (row_degrees b) (record { degree = v.degree; terms = negative p d.terms }) =
-          IsVector-negative p (row_degrees b) v.degree d.terms
-          (subst (λ e. IsVector p (row_degrees b) (record { degree = e; terms = d.terms })) degree (subst (λ q. IsVector q (row_degrees b) d) (sym moduli) h.inside.1)) in
-          let pair : IsVector p (row_degrees a ++ row_degrees b) (record { degree = v.degree; terms = pair_terms (length a.rows) v.terms (negative p d.terms) }) =
-          subst (λ n. IsVector p (row_degrees a ++ row_degrees b) (record { degree = v.degree; terms = pair_terms n v.terms (negative p d.terms) })) (length-map a.rows (λ (x : Vector). x.degree))
-          (IsVector-pair (row_degrees a) (row_degrees b) v.degree p v.terms (negative p d.terms) h.coefficients coefficients) in
-          let canonical : IsCanonical place_cmp p d.terms = subst (λ q. IsCanonical place_cmp q d.terms) (sym moduli) h.inside.1.canonical in
-          let value : row_combination p b.rows d.terms ≡ row_combination p a.rows v.terms = ap (λ q. row_combination q b.rows d.terms) moduli ∙ ap (λ x. x.terms) h.inside.2 in
-          let zero : row_combination p (a.rows ++ b.rows) (pair_terms (length a.rows) v.terms (negative p d.terms)) ≡ [] =
-          row_combination-stacked p positive a.rows b.rows v.terms (negative p d.terms) within
-          ∙ ap (add place_cmp p (row_combination p a.rows v.terms)) (row_combination-negative p positive b.rows d.terms canonical ∙ ap (negative p) value)
-          ∙ add-negative place_keys p positive (row_combination p a.rows v.terms) (IsCanonical-row_combination p positive a.rows v.terms) in (
-            record { degree = v.degree; terms = pair_terms (length a.rows) v.terms (negative p d.terms) },
-            record { coefficients = stack_coefficients _ pair; zero = zero },
-            (λ i. record { degree = v.degree; terms = part_terms-pair_first (length a.rows) v.terms (negative p d.terms) within i }),
-          )
-
-      pub IsRelation-blocks : (v : Vector) → (IsRelation a (InSpan b) v → IsFirstBlock a b v) × (IsFirstBlock a b v → IsRelation a (InSpan b) v)
-      IsRelation-blocks v = (block_from_relation v, relation_from_block v)
+  pub IsRelation-blocks : (v : Vector) → (IsRelation a (InSpan b) v → IsFirstBlock a b v) × (IsFirstBlock a b v → IsRelation a (InSpan b) v)
+  IsRelation-blocks v = (block_from_relation v, relation_from_block v)

@@ -14,6 +14,7 @@ pub mod CutLaws
 pub mod LiftLaws
 pub mod CriterionLaws
 pub mod PresentationLaws
+pub mod HomologyLaws
 pub mod MinimalLaws
 pub mod ExistenceLaws
 pub mod Examples

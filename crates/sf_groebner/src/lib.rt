@@ -5,6 +5,7 @@
 #![tactic(auto)]
 
 mod bases;
+mod chain_map;
 mod criterion;
 mod examples;
 mod existence;
@@ -15,6 +16,7 @@ mod presentation;
 mod stack;
 
 pub use bases::reduced_bases_are_unique;
+pub use chain_map::homology_of_maps;
 pub use criterion::{pairs_decide_bases, pairs_give_syzygies};
 pub use examples::{koszul_homology, refused_bases, resolutions_of_ideals, two_quadrics};
 pub use existence::{
