@@ -63,6 +63,7 @@ pub mod Homology
 pub mod EqualModulo
 pub mod Squares
 pub mod ChainMaps
+pub mod IdentitySquares
 pub mod SumsAndMultiples
 pub mod KeptGenerators
 pub mod PendingDegrees

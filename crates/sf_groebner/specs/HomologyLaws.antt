@@ -2,7 +2,7 @@
 -- 1.1: chain maps and their homology; in homalg's convention.)
 use Rattle.std.specs.Prelude.{◌≡◌, ◌<◌, ℕ, List}
 use Rattle.sf_algebra.specs.Matrices.{Matrix, row_degrees, IsMatrix}
-use Rattle.sf_algebra.specs.MatrixOperations.{row_combination, stacked}
+use Rattle.sf_algebra.specs.MatrixOperations.{row_combination, identity, stacked}
 use Rattle.sf_algebra.specs.Monomials.{Monomial}
 use Rattle.sf_algebra.specs.Multiples.{place_product, multiple, negative}
 use Rattle.sf_algebra.specs.Sums.{add}
@@ -46,10 +46,17 @@ pub record ComplexPlace : Type 0 where
   pub out : Matrix
   pub beyond : Matrix
 
--- maps of one complex into another about a place: both squares commute modulo relations
+-- maps of one complex into another about a place: both squares commute modulo relations. That two maps of a complex, one after
+-- the other, give zero isn't asked.
 pub record AreChainMaps (a b : ComplexPlace) (first second third : Matrix) : Type 0 where
   pub before : IsSquare a.arriving a.here b.arriving b.here first second
   pub after : IsSquare a.out a.beyond b.out b.beyond second third
+
+-- the identities are maps of each complex into itself
+abbrev pub HasIdentityChainMaps : Type 0
+HasIdentityChainMaps =
+    (p : ℕ) → 1 < p → (a : ComplexPlace) → a.here.modulus ≡ p → a.beyond.modulus ≡ p → IsMapInto a.here a.arriving → IsMapInto a.beyond a.out → row_degrees a.out ≡ a.here.target
+    → AreChainMaps a a (identity p (row_degrees a.arriving)) (identity p a.here.target) (identity p a.beyond.target)
 
 -- a matrix acts from N modulo B to M modulo A: elements go to elements, what is zero to what is zero, and so equal classes to
 -- equal classes; sums and multiples are kept

@@ -1,7 +1,8 @@
-ghost use Rattle.sf_groebner.specs.HomologyLaws.{ActsOnHomology, ActsOnKernels, ActsOnImages, ActsOnCokernels};
+ghost use Rattle.sf_groebner.specs.HomologyLaws.{HasIdentityChainMaps, ActsOnHomology, ActsOnKernels, ActsOnImages, ActsOnCokernels};
 
-/// Maps of complexes act on homology, and squares of maps on kernels, images and cokernels.
+/// Maps of complexes, of which the identities are some, act on homology, and squares of maps on kernels, images and cokernels.
 pub fn homology_of_maps()
+    ensures identities { HasIdentityChainMaps }
     ensures homology { ActsOnHomology }
     ensures kernels { ActsOnKernels }
     ensures images { ActsOnImages }
