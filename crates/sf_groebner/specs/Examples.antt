@@ -1,5 +1,5 @@
--- Worked examples of the definitions, over the residues modulo 101 and in the variables x, y and z. (After the exercises of Cox,
--- Little, O'Shea, "Using Algebraic Geometry", chapter 5, section 3.)
+-- Worked examples of the definitions, over the residues modulo 101; the first three variables are called x, y and z. (The examples
+-- are this project's own.)
 use Rattle.std.specs.Prelude.{◌≡◌, ℕ, List, [], ◌∷◌, ◌++◌, pos}
 use Rattle.sf_algebra.specs.Matrices.{Matrix, IsMatrix}
 use Rattle.sf_algebra.specs.Monomials.{from_exponents}

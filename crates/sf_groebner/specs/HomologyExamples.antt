@@ -1,4 +1,4 @@
--- The homology of the Koszul complex of two variables: none in the middle, the field of scalars at the end. (Weibel, "An
+-- The homology of the Koszul complex of two variables: none in the middle, the quotient by them at the end. (Weibel, "An
 -- Introduction to Homological Algebra", section 4.5.)
 use Rattle.std.specs.Prelude.{[], ◌∷◌, pos}
 use Rattle.sf_algebra.specs.Matrices.{Matrix}

@@ -1,5 +1,4 @@
--- Lists that aren't the reduced basis of the ideal of x^2 and x y + y^2, each for one reason. (After Cox, Little, O'Shea, "Using
--- Algebraic Geometry", chapter 5, section 2.)
+-- Lists that aren't the reduced basis of the ideal of x^2 and x y + y^2, each for one reason. (The lists are this project's own.)
 use Rattle.std.specs.Prelude.{List, [], ◌∷◌}
 use Rattle.std.specs.List.{AllByRecursion}
 use Rattle.sf_algebra.specs.Vectors.{Vector}

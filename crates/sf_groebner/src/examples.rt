@@ -36,7 +36,7 @@ pub fn resolutions_of_ideals()
     ensures third_row { RefusesThirdRow }
 {}
 
-/// The homology of the Koszul complex of two variables: none in the middle, and the field of scalars at the end.
+/// The homology of the Koszul complex of two variables: none in the middle, and the quotient by them at the end.
 pub fn koszul_homology()
     ensures middle { HasNoKoszulHomology }
     ensures kernel { HasKoszulKernel }
