@@ -2,7 +2,7 @@ ghost use Rattle.std.specs.Prelude.{◌≡◌, ◌++◌, IfOk, OnOk, IsTrue};
 ghost use Rattle.std.specs.List.{AllByRecursion};
 ghost use Rattle.sf_algebra.specs.Matrices.{row_degrees};
 ghost use Rattle.sf_algebra.specs.Vectors.{IsTermOfDegree};
-ghost use Rattle.sf_matrix.specs.Bounds.{MultipleFits};
+ghost use Rattle.sf_matrix.specs.Bounds.{HasRoom};
 
 use crate::free::Free;
 use crate::list::List;
@@ -107,7 +107,7 @@ pub fn modulus_of(number: u64) -> Result<Modulus, Fail> {
 
 /// Whether the multiple of the terms by a monomial has room.
 pub fn multiple_fits(a: Mono, terms: &[Term]) -> bool
-    ensures { IsTrue result → MultipleFits a terms.now }
+    ensures { IsTrue result → HasRoom a terms.now }
 {
     match terms {
         [] => true,
