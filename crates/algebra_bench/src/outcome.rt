@@ -1,3 +1,5 @@
+ghost use Rattle.std.specs.Prelude.{◌≡◌, length};
+
 use sf_matrix::{Matrix, Vector};
 use sf_poly::Poly;
 
@@ -12,7 +14,9 @@ pub struct Outcome {
 
 impl Outcome {
     /// That of a vector.
-    pub fn of_vector(vector: &Vector) -> Outcome {
+    pub fn of_vector(vector: &Vector) -> Outcome
+        ensures terms { result.terms ≡ length vector.now.terms }
+    {
         let mut checksum = 0_u32;
         for k in 0..vector.len() {
             let (_, _, coefficient) = vector.term(k);
@@ -25,7 +29,9 @@ impl Outcome {
     }
 
     /// That of a polynomial.
-    pub fn of_polynomial(polynomial: &Poly) -> Outcome {
+    pub fn of_polynomial(polynomial: &Poly) -> Outcome
+        ensures terms { result.terms ≡ length polynomial.now.terms }
+    {
         let mut checksum = 0_u32;
         for k in 0..polynomial.len() {
             let (_, coefficient) = polynomial.term_at(k);
