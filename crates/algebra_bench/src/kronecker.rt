@@ -1,5 +1,6 @@
 ghost use Rattle.std.specs.Prelude.{◌≡◌, IfOk, pos};
 ghost use Rattle.sf_algebra.specs.Monomials.{exponent_sum};
+ghost use Rattle.sf_algebra.specs.Rings.{plain};
 ghost use Rattle.sf_algebra.specs.Vectors.{IsVector};
 ghost use Rattle.algebra_bench.specs.Operands.{AreFlat, IsOperand};
 
@@ -26,7 +27,7 @@ pub fn multiply_by_identity(alloc: Global, modulus: Modulus, rounds: u32) -> Res
 
 /// A matrix of 60 rows over 60 generators, each entry of which is a variable with a coefficient.
 fn random_matrix(alloc: Global, modulus: Modulus, numbers: &mut Generator) -> Result<Matrix>
-    ensures modulus { IfOk result (λ m. m.modulus ≡ modulus) }
+    ensures ring { IfOk result (λ m. m.ring ≡ plain modulus) }
     ensures operand { IfOk result IsOperand }
 {
     let degrees = List::from_slice(alloc, [0; 60].as_slice())?;
@@ -48,7 +49,7 @@ fn random_row(
     numbers: &mut Generator,
 ) -> Result<Vector>
     requires flat { AreFlat degrees.now }
-    ensures vector { IfOk result (IsVector modulus degrees.now) }
+    ensures vector { IfOk result (IsVector (plain modulus) degrees.now) }
     ensures degree { IfOk result (λ v. v.degree ≡ pos 1) }
 {
     let mut terms = Vec::with_capacity(alloc, degrees.len())?;

@@ -1,4 +1,5 @@
 ghost use Rattle.std.specs.Prelude.{◌≡◌, IfOk};
+ghost use Rattle.sf_algebra.specs.Rings.{plain};
 
 use crate::generator::Generator;
 use crate::outcome::Outcome;
@@ -23,7 +24,7 @@ pub fn multiply_polynomials(alloc: Global, modulus: Modulus, rounds: u32) -> Res
 
 /// A polynomial with all exponents up to 9 of three variables.
 fn random_polynomial(alloc: Global, modulus: Modulus, numbers: &mut Generator) -> Result<Poly>
-    ensures modulus { IfOk result (λ f. f.modulus ≡ modulus) }
+    ensures ring { IfOk result (λ f. f.ring ≡ plain modulus) }
 {
     let mut sum = Poly::zero(alloc, modulus);
     for k in 0..1000_u16 {

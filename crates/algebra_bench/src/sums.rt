@@ -1,4 +1,5 @@
 ghost use Rattle.std.specs.Prelude.{◌≡◌, IfOk, pos};
+ghost use Rattle.sf_algebra.specs.Rings.{ones};
 ghost use Rattle.sf_algebra.specs.Terms.{IsCanonical};
 ghost use Rattle.sf_algebra.specs.Vectors.{place_cmp};
 
@@ -28,7 +29,7 @@ pub fn add_vectors(alloc: Global, modulus: Modulus, rounds: u32) -> Result<Outco
 /// exponent 0 or 1 of a fourth one.
 fn random_vector(alloc: Global, modulus: Modulus, numbers: &mut Generator) -> Result<Vector>
     ensures degree { IfOk result (λ v. v.degree ≡ pos 0) }
-    ensures canonical { IfOk result (λ v. IsCanonical place_cmp modulus v.terms) }
+    ensures canonical { IfOk result (λ v. IsCanonical (place_cmp ones) modulus v.terms) }
 {
     let mut terms = Vec::with_capacity(alloc, 100_000)?;
     for k in 0..100_000_u64 {

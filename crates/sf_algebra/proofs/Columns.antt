@@ -7,7 +7,8 @@ use Rattle.std.proofs.lemmas.Int.{ints}
 use Rattle.std.proofs.lemmas.List.{get_or_at}
 use Rattle.std.proofs.Math.ListN.{length-append}
 use Rattle.sf_algebra.specs.MatrixOperations.{row_at, at_position, column_terms}
-use Rattle.sf_algebra.specs.Monomials.{Monomial, exponent_sum}
+use Rattle.sf_algebra.specs.Monomials.{Monomial, monomial_degree}
+use Rattle.sf_algebra.specs.Rings.{Ring, Weights}
 use Rattle.sf_algebra.specs.Terms.{Term, IsDescending, IsNonzeroResidue}
 use Rattle.sf_algebra.specs.Vectors.{Vector, place_cmp, entry, generator_degree, IsTermOfDegree, IsHomogeneous, IsVector}
 use Rattle.sf_algebra.proofs.Entries.{entry-past}
@@ -55,14 +56,14 @@ module _ (j : ℕ) where
       entry-append n (at_position i (entry j v.terms)) (column_terms j (suc i) vs)
       ∙ (λ l. entry-at_position_other i n (entry j v.terms) (λ same. omega arith) l ++ entry-column_terms (suc i) vs k n (omega arith) l)
 
-  pub IsDescending-column_terms : (i : ℕ) (vs : List Vector) → AllByRecursion (λ v. IsDescending place_cmp v.terms) vs → IsDescending place_cmp (column_terms j i vs)
-  IsDescending-column_terms i [] h = tt
-  IsDescending-column_terms i (v ∷ vs) h =
-      IsDescending-append place_cmp (at_position i (entry j v.terms)) (column_terms j (suc i) vs)
-      (IsDescending-at_position i (entry j v.terms) (IsDescending-entry j v.terms h.0))
-      (IsDescending-column_terms (suc i) vs h.1)
+  pub IsDescending-column_terms : (weights : Weights) (i : ℕ) (vs : List Vector) → AllByRecursion (λ v. IsDescending (place_cmp weights) v.terms) vs → IsDescending (place_cmp weights) (column_terms j i vs)
+  IsDescending-column_terms weights i [] h = tt
+  IsDescending-column_terms weights i (v ∷ vs) h =
+      IsDescending-append (place_cmp weights) (at_position i (entry j v.terms)) (column_terms j (suc i) vs)
+      (IsDescending-at_position weights i (entry j v.terms) (IsDescending-entry weights j v.terms h.0))
+      (IsDescending-column_terms weights (suc i) vs h.1)
       (AllByRecursion-at_position _ i (entry j v.terms)
-      (AllByRecursion-always _ (λ e. AllByRecursion-weaken _ _ (λ t later. place_cmp-later t.at (with_position i e).at (omega arith)) (column_terms j (suc i) vs) (positions-column_terms (suc i) vs)) (entry j v.terms)))
+      (AllByRecursion-always _ (λ e. AllByRecursion-weaken _ _ (λ t later. place_cmp-later weights t.at (with_position i e).at (omega arith)) (column_terms j (suc i) vs) (positions-column_terms (suc i) vs)) (entry j v.terms)))
 
   pub residues-column_terms : (p i : ℕ) (vs : List Vector) → AllByRecursion (λ v. AllByRecursion (IsNonzeroResidue p) v.terms) vs → AllByRecursion (IsNonzeroResidue p) (column_terms j i vs)
   residues-column_terms p i [] h = tt
@@ -72,36 +73,36 @@ module _ (j : ℕ) where
       (residues-column_terms p (suc i) vs h.1)
 
   -- a column of rows over the degrees is homogeneous over the negatives of the rows' degrees
-  IsHomogeneous-column_terms : (p : ℕ) (degrees : List ℤ) (d : ℤ) → generator_degree degrees j ≡ d → (front : List ℤ) (i : ℕ) (vs : List Vector) → i ≡ length front → AllByRecursion (IsVector p degrees) vs
-      → IsHomogeneous (front ++ map neg_ℤ (map (λ (v : Vector). v.degree) vs)) (neg_ℤ d) (column_terms j i vs)
-  IsHomogeneous-column_terms p degrees d here front i [] e h = tt
-  IsHomogeneous-column_terms p degrees d here front i (v ∷ vs) e h =
+  IsHomogeneous-column_terms : (ring : Ring) (degrees : List ℤ) (d : ℤ) → generator_degree degrees j ≡ d → (front : List ℤ) (i : ℕ) (vs : List Vector) → i ≡ length front → AllByRecursion (IsVector ring degrees) vs
+      → IsHomogeneous ring.weights (front ++ map neg_ℤ (map (λ (v : Vector). v.degree) vs)) (neg_ℤ d) (column_terms j i vs)
+  IsHomogeneous-column_terms ring degrees d here front i [] e h = tt
+  IsHomogeneous-column_terms ring degrees d here front i (v ∷ vs) e h =
       let rest = map neg_ℤ (map (λ (w : Vector). w.degree) vs) in
       let all = front ++ neg_ℤ v.degree ∷ rest in
       let inside : i < length all = rw length-append (omega arith) in
       let size : suc i ≡ length (front ++ neg_ℤ v.degree ∷ []) = rw length-append (omega arith) in
       let found : generator_degree all i ≡ neg_ℤ v.degree = get_or_at front (neg_ℤ v.degree) rest (pos 0) i (sym e) in
       AllByRecursion-append _ (at_position i (entry j v.terms)) (column_terms j (suc i) vs)
-      (AllByRecursion-at_position (IsTermOfDegree all (neg_ℤ d)) i (entry j v.terms)
+      (AllByRecursion-at_position (IsTermOfDegree ring.weights all (neg_ℤ d)) i (entry j v.terms)
       (AllByRecursion-weaken _ _
-      (λ t k. (inside, degree t v.degree all i found (k.1 ∙ ap (λ c. c +ℤ pos (exponent_sum t.at)) here)))
+      (λ t k. (inside, degree t v.degree all i found (k.1 ∙ ap (λ c. c +ℤ pos (monomial_degree ring.weights t.at)) here)))
       (entry j v.terms)
-      (AllByRecursion-entry (IsTermOfDegree degrees v.degree) j v.terms h.0.homogeneous)))
-      (subst (λ es. IsHomogeneous es (neg_ℤ d) (column_terms j (suc i) vs)) (append_assoc front (neg_ℤ v.degree ∷ []) rest)
-      (IsHomogeneous-column_terms p degrees d here (front ++ neg_ℤ v.degree ∷ []) (suc i) vs size h.1))
+      (AllByRecursion-entry (IsTermOfDegree ring.weights degrees v.degree) j v.terms h.0.homogeneous)))
+      (subst (λ es. IsHomogeneous ring.weights es (neg_ℤ d) (column_terms j (suc i) vs)) (append_assoc front (neg_ℤ v.degree ∷ []) rest)
+      (IsHomogeneous-column_terms ring degrees d here (front ++ neg_ℤ v.degree ∷ []) (suc i) vs size h.1))
     where
       sums : (d e : ℤ) (n : ℕ) → e ≡ d +ℤ pos n → neg_ℤ d ≡ neg_ℤ e +ℤ pos n
       sums d e n same = omega (arith, ints)
 
-      degree : (t : Term Monomial) (e : ℤ) (all : List ℤ) (i : ℕ) → generator_degree all i ≡ neg_ℤ e → e ≡ d +ℤ pos (exponent_sum t.at) → neg_ℤ d ≡ generator_degree all i +ℤ pos (exponent_sum t.at)
-      degree t e all i found same = rw found (sums d e (exponent_sum t.at) same)
+      degree : (t : Term Monomial) (e : ℤ) (all : List ℤ) (i : ℕ) → generator_degree all i ≡ neg_ℤ e → e ≡ d +ℤ pos (monomial_degree ring.weights t.at) → neg_ℤ d ≡ generator_degree all i +ℤ pos (monomial_degree ring.weights t.at)
+      degree t e all i found same = rw found (sums d e (monomial_degree ring.weights t.at) same)
 
-  pub IsVector-column : (p : ℕ) (degrees : List ℤ) (d : ℤ) (vs : List Vector) → generator_degree degrees j ≡ d → AllByRecursion (IsVector p degrees) vs
-      → IsVector p (map neg_ℤ (map (λ (v : Vector). v.degree) vs)) (record { degree = neg_ℤ d; terms = column_terms j 0 vs })
-  IsVector-column p degrees d vs here h = record {
+  pub IsVector-column : (ring : Ring) (degrees : List ℤ) (d : ℤ) (vs : List Vector) → generator_degree degrees j ≡ d → AllByRecursion (IsVector ring degrees) vs
+      → IsVector ring (map neg_ℤ (map (λ (v : Vector). v.degree) vs)) (record { degree = neg_ℤ d; terms = column_terms j 0 vs })
+  IsVector-column ring degrees d vs here h = record {
     canonical = record {
-      descending = IsDescending-column_terms 0 vs (AllByRecursion-weaken _ _ (λ v k. k.canonical.descending) vs h);
-      residues = residues-column_terms p 0 vs (AllByRecursion-weaken _ _ (λ v k. k.canonical.residues) vs h);
+      descending = IsDescending-column_terms ring.weights 0 vs (AllByRecursion-weaken _ _ (λ v k. k.canonical.descending) vs h);
+      residues = residues-column_terms ring.modulus 0 vs (AllByRecursion-weaken _ _ (λ v k. k.canonical.residues) vs h);
     };
-    homogeneous = IsHomogeneous-column_terms p degrees d here [] 0 vs refl h;
+    homogeneous = IsHomogeneous-column_terms ring degrees d here [] 0 vs refl h;
   }

@@ -1,13 +1,15 @@
 -- Divisors, quotients and least common multiples of monomials.
-use Rattle.std.proofs.Common.{◌≡◌, ◌≢◌, ◌↔◌, ◌+◌, ◌≤◌, inl, inr, sym, ◌∙◌, ap, arith}
+use Rattle.std.proofs.Common.{◌≡◌, ◌≢◌, ◌↔◌, ℕ, ◌+◌, ◌*◌, ◌<◌, ◌≤◌, inl, inr, sym, ◌∙◌, ap, arith}
+use Rattle.std.proofs.Math.Nat.{mul-le-mul_left, le_of_mul-le-mul_left}
 use Rattle.std.proofs.lemmas.Bool.{cases_lt}
 use Rattle.std.proofs.lemmas.Cmp.{tied_itself}
 use Rattle.std.specs.declared.cmp.Ordering.TheVariants.{Greater}
 use Rattle.sf_algebra.specs.Divisibility.{Divides, quotient, lcm}
-use Rattle.sf_algebra.specs.Monomials.{Monomial, product, exponent_sum, monomial_cmp}
+use Rattle.sf_algebra.specs.Monomials.{Monomial, product, monomial_degree, monomial_cmp}
+use Rattle.sf_algebra.specs.Rings.{Weights, IsPositive}
 use Rattle.sf_algebra.proofs.Comparisons.{nat_cmp-lt}
 use Rattle.sf_algebra.proofs.Orders.{monomial_cmp_total}
-use Rattle.sf_algebra.proofs.Products.{exponent_sum-product}
+use Rattle.sf_algebra.proofs.Products.{monomial_degree-product}
 
 -- monomials with equal exponents are equal
 pub same_monomial : (a b : Monomial) → a.e1 ≡ b.e1 → a.e2 ≡ b.e2 → a.e3 ≡ b.e3 → a.e4 ≡ b.e4 → a.e5 ≡ b.e5 → a.e6 ≡ b.e6 → a ≡ b
@@ -48,15 +50,43 @@ Divides-trans a b c h k = (omega arith, omega arith, omega arith, omega arith, o
 pub Divides-antisymm : (a b : Monomial) → Divides a b → Divides b a → a ≡ b
 Divides-antisymm a b h k = same_monomial a b (omega arith) (omega arith) (omega arith) (omega arith) (omega arith) (omega arith)
 
--- a divisor with the same sum of exponents is the monomial itself
-Divides-same_sum : (a b : Monomial) → Divides a b → exponent_sum b ≤ exponent_sum a → a ≡ b
-Divides-same_sum a b h k = same_monomial a b (omega arith) (omega arith) (omega arith) (omega arith) (omega arith) (omega arith)
+-- what each exponent of a divisor adds to its degree
+abbrev HasSmallerParts : Weights → Monomial → Monomial → Type 0
+HasSmallerParts weights a b =
+    (weights.w1 * a.e1 ≤ weights.w1 * b.e1) × (weights.w2 * a.e2 ≤ weights.w2 * b.e2) × (weights.w3 * a.e3 ≤ weights.w3 * b.e3)
+    × (weights.w4 * a.e4 ≤ weights.w4 * b.e4) × (weights.w5 * a.e5 ≤ weights.w5 * b.e5) × (weights.w6 * a.e6 ≤ weights.w6 * b.e6)
 
-pub Divides-monomial_cmp : (a b : Monomial) → Divides a b → monomial_cmp a b ≢ Greater
-Divides-monomial_cmp a b h greater =
-    elim (cases_lt (exponent_sum a) (exponent_sum b)) [
+smaller_parts : (weights : Weights) (a b : Monomial) → Divides a b → HasSmallerParts weights a b
+smaller_parts weights a b h = (
+  mul-le-mul_left weights.w1 h.0,
+  mul-le-mul_left weights.w2 h.1,
+  mul-le-mul_left weights.w3 h.2,
+  mul-le-mul_left weights.w4 h.3,
+  mul-le-mul_left weights.w5 h.4,
+  mul-le-mul_left weights.w6 h.5,
+)
+
+-- a smaller exponent that adds as much is the same
+tight : (w a b : ℕ) → 0 < w → a ≤ b → w * b ≤ w * a → a ≡ b
+tight w a b positive h k = let back = le_of_mul-le-mul_left k positive in omega arith
+
+-- a divisor of the same degree is the monomial itself
+Divides-same_degree : (weights : Weights) → IsPositive weights → (a b : Monomial) → Divides a b → monomial_degree weights b ≤ monomial_degree weights a → a ≡ b
+Divides-same_degree weights positive a b h k =
+    let s = smaller_parts weights a b h in
+    same_monomial a b
+    (tight weights.w1 a.e1 b.e1 positive.first h.0 (omega arith))
+    (tight weights.w2 a.e2 b.e2 positive.second h.1 (omega arith))
+    (tight weights.w3 a.e3 b.e3 positive.third h.2 (omega arith))
+    (tight weights.w4 a.e4 b.e4 positive.fourth h.3 (omega arith))
+    (tight weights.w5 a.e5 b.e5 positive.fifth h.4 (omega arith))
+    (tight weights.w6 a.e6 b.e6 positive.sixth h.5 (omega arith))
+
+pub Divides-monomial_cmp : (weights : Weights) → IsPositive weights → (a b : Monomial) → Divides a b → monomial_cmp weights a b ≢ Greater
+Divides-monomial_cmp weights positive a b h greater =
+    elim (cases_lt (monomial_degree weights a) (monomial_degree weights b)) [
       | inl less ↦ let e = rw (nat_cmp-lt _ _ less) at greater in cc
-      | inr same ↦ let e = ap (monomial_cmp a) (Divides-same_sum a b h same) in let f = tied_itself monomial_cmp_total a in cc
+      | inr same ↦ let e = ap (monomial_cmp weights a) (Divides-same_degree weights positive a b h same) in let f = tied_itself (monomial_cmp_total weights) a in cc
     ]
 
 pub lcm-multiple : (a b : Monomial) → Divides a (lcm a b) × Divides b (lcm a b)
@@ -66,16 +96,16 @@ lcm-multiple a b =
 pub lcm-least : (a b c : Monomial) → Divides a c → Divides b c → Divides (lcm a b) c
 lcm-least a b c h k = (omega arith, omega arith, omega arith, omega arith, omega arith, omega arith)
 
--- the sum of the exponents of a divisor is not greater
-pub exponent_sum-Divides : (a b : Monomial) → Divides a b → exponent_sum a ≤ exponent_sum b
-exponent_sum-Divides a b h = omega arith
+-- the degree of a divisor is not greater
+pub monomial_degree-Divides : (weights : Weights) (a b : Monomial) → Divides a b → monomial_degree weights a ≤ monomial_degree weights b
+monomial_degree-Divides weights a b h = let s = smaller_parts weights a b h in omega arith
 
 -- the least common multiple divides the product
 pub Divides-lcm_product : (a b : Monomial) → Divides (lcm a b) (product a b)
 Divides-lcm_product a b = (omega arith, omega arith, omega arith, omega arith, omega arith, omega arith)
 
-pub exponent_sum-lcm : (a b : Monomial) → exponent_sum (lcm a b) ≤ exponent_sum a + exponent_sum b
-exponent_sum-lcm a b = rw (← exponent_sum-product a b) (exponent_sum-Divides (lcm a b) (product a b) (Divides-lcm_product a b))
+pub monomial_degree-lcm : (weights : Weights) (a b : Monomial) → monomial_degree weights (lcm a b) ≤ monomial_degree weights a + monomial_degree weights b
+monomial_degree-lcm weights a b = rw (← monomial_degree-product weights a b) (monomial_degree-Divides weights (lcm a b) (product a b) (Divides-lcm_product a b))
 
-pub lcm-sum : (a b : Monomial) → (exponent_sum a ≤ exponent_sum (lcm a b)) × (exponent_sum b ≤ exponent_sum (lcm a b))
-lcm-sum a b = let h = lcm-multiple a b in (exponent_sum-Divides a (lcm a b) h.0, exponent_sum-Divides b (lcm a b) h.1)
+pub lcm-sum : (weights : Weights) (a b : Monomial) → (monomial_degree weights a ≤ monomial_degree weights (lcm a b)) × (monomial_degree weights b ≤ monomial_degree weights (lcm a b))
+lcm-sum weights a b = let h = lcm-multiple a b in (monomial_degree-Divides weights a (lcm a b) h.0, monomial_degree-Divides weights b (lcm a b) h.1)

@@ -5,6 +5,7 @@ use Rattle.std.specs.declared.cmp.Ordering.TheVariants.{Less}
 use Rattle.std.specs.Ordering.{nat_cmp, ordering_then}
 use Rattle.std.specs.List.{AllByRecursion, cons_option}
 use Rattle.std.proofs.lemmas.Bool.Decides.{nat_tests}
+use Rattle.sf_algebra.specs.Rings.{Weights}
 use Rattle.sf_algebra.specs.Terms.{Term, IsDescending}
 use Rattle.sf_algebra.specs.Monomials.{Monomial}
 use Rattle.sf_algebra.specs.Vectors.{Place, place_cmp, entry}
@@ -36,9 +37,9 @@ nat_cmp-lead : (m n : ℕ) (o : Ordering) → ordering_then (nat_cmp m n) o ≡ 
 nat_cmp-lead m n o e = grind (arith, nat_tests)
 
 -- a smaller place stands at no earlier position
-pub position_from_place_cmp : (a b : Place) → place_cmp a b ≡ Less → b.position ≤ a.position
-position_from_place_cmp a b e = nat_cmp-lead b.position a.position _ e
+pub position_from_place_cmp : (weights : Weights) (a b : Place) → place_cmp weights a b ≡ Less → b.position ≤ a.position
+position_from_place_cmp weights a b e = nat_cmp-lead b.position a.position _ e
 
 -- the terms behind a term of a descending list stand at no earlier position
-pub IsDescending-positions : (t : Term Place) (ts : List (Term Place)) → IsDescending place_cmp (t ∷ ts) → AllByRecursion (λ u. t.at.position ≤ u.at.position) ts
-IsDescending-positions t ts h = AllByRecursion-weaken _ _ (λ u e. position_from_place_cmp u.at t.at e) ts h.0
+pub IsDescending-positions : (weights : Weights) (t : Term Place) (ts : List (Term Place)) → IsDescending (place_cmp weights) (t ∷ ts) → AllByRecursion (λ u. t.at.position ≤ u.at.position) ts
+IsDescending-positions weights t ts h = AllByRecursion-weaken _ _ (λ u e. position_from_place_cmp weights u.at t.at e) ts h.0

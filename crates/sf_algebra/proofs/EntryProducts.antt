@@ -9,6 +9,7 @@ use Rattle.sf_algebra.specs.Monomials.{Monomial, product, monomial_cmp}
 use Rattle.sf_algebra.specs.Multiples.{term_product}
 use Rattle.sf_algebra.specs.Polynomials.{polynomial_product}
 use Rattle.sf_algebra.specs.Residues.{sum_mod}
+use Rattle.sf_algebra.specs.Rings.{Ring}
 use Rattle.sf_algebra.specs.Sums.{total}
 use Rattle.sf_algebra.specs.Terms.{Term, IsCanonical}
 use Rattle.sf_algebra.specs.Vectors.{Place, Vector, entry}
@@ -49,48 +50,48 @@ row_from-before i k (v ∷ vs) before = row_from-behind i k v vs (λ same. omega
 abbrev pub products_total : ℕ → ℕ → (Term Monomial → ℕ) → List (Term Place) → Term Place → ℕ
 products_total p j g us t = total p (λ u. g (term_product product p (factor (λ (k : Place). k.monomial) t) u)) (entry j us)
 
-module _ (p j : ℕ) (c : List (Term Place)) (g : Term Monomial → ℕ) (additive : IsAdditive p g) where
+module _ (ring : Ring) (j : ℕ) (c : List (Term Place)) (g : Term Monomial → ℕ) (additive : IsAdditive ring.modulus g) where
   -- a coefficient meets one of the rows
   products_total-row_from : (i : ℕ) (v : Vector) (vs : List Vector) (t : Term Place)
-      → products_total p j g (row_from i (v ∷ vs) t.at.position) t % p
-      ≡ sum_mod p (if t.at.position == i then products_total p j g v.terms t else 0) (products_total p j g (row_from (suc i) vs t.at.position) t)
+      → products_total ring.modulus j g (row_from i (v ∷ vs) t.at.position) t % ring.modulus
+      ≡ sum_mod ring.modulus (if t.at.position == i then products_total ring.modulus j g v.terms t else 0) (products_total ring.modulus j g (row_from (suc i) vs t.at.position) t)
   products_total-row_from i v vs t = elim (cases_eq t.at.position i) [
     | inl here ↦
         let yes : eqb t.at.position i ≡ true = grind (arith, nat_tests) in
-        ap (λ us. products_total p j g us t % p) (row_from-here i t.at.position v vs here)
-        ∙ sym (sum_mod-zero p (products_total p j g v.terms t))
-        ∙ (λ k. sum_mod p (if sym yes k then products_total p j g v.terms t else 0) (sym (none (omega arith)) k))
+        ap (λ us. products_total ring.modulus j g us t % ring.modulus) (row_from-here i t.at.position v vs here)
+        ∙ sym (sum_mod-zero ring.modulus (products_total ring.modulus j g v.terms t))
+        ∙ (λ k. sum_mod ring.modulus (if sym yes k then products_total ring.modulus j g v.terms t else 0) (sym (none (omega arith)) k))
     | inr behind ↦
         let no : eqb t.at.position i ≡ false = grind (arith, nat_tests) in
-        ap (λ us. products_total p j g us t % p) (row_from-behind i t.at.position v vs behind)
-        ∙ sym (sum_mod-zero_first p (products_total p j g (row_from (suc i) vs t.at.position) t))
-        ∙ (λ k. sum_mod p (if sym no k then products_total p j g v.terms t else 0) (products_total p j g (row_from (suc i) vs t.at.position) t))
+        ap (λ us. products_total ring.modulus j g us t % ring.modulus) (row_from-behind i t.at.position v vs behind)
+        ∙ sym (sum_mod-zero_first ring.modulus (products_total ring.modulus j g (row_from (suc i) vs t.at.position) t))
+        ∙ (λ k. sum_mod ring.modulus (if sym no k then products_total ring.modulus j g v.terms t else 0) (products_total ring.modulus j g (row_from (suc i) vs t.at.position) t))
   ]
     where
-      none : t.at.position < suc i → products_total p j g (row_from (suc i) vs t.at.position) t ≡ 0
-      none before = ap (λ us. products_total p j g us t) (row_from-before (suc i) t.at.position vs before) ∙ total-nil p _
+      none : t.at.position < suc i → products_total ring.modulus j g (row_from (suc i) vs t.at.position) t ≡ 0
+      none before = ap (λ us. products_total ring.modulus j g us t) (row_from-before (suc i) t.at.position vs before) ∙ total-nil ring.modulus _
 
-  total-entry_products : (i : ℕ) (rows : List Vector) → total p g (entry_products p j c i rows) ≡ total p (λ t. products_total p j g (row_from i rows t.at.position) t) c
-  total-entry_products i [] = total-nil p g ∙ sym (total-zero p _ c (λ t. ap (λ n. n % p) (total-nil p _) ∙ zero-mod p))
+  total-entry_products : (i : ℕ) (rows : List Vector) → total ring.modulus g (entry_products ring j c i rows) ≡ total ring.modulus (λ t. products_total ring.modulus j g (row_from i rows t.at.position) t) c
+  total-entry_products i [] = total-nil ring.modulus g ∙ sym (total-zero ring.modulus _ c (λ t. ap (λ n. n % ring.modulus) (total-nil ring.modulus _) ∙ zero-mod ring.modulus))
   total-entry_products i (v ∷ vs) =
-      total-add monomial_cmp monomial_cmp_linear p g additive _ _
-      ∙ (λ k. sum_mod p (first k) (total-entry_products (suc i) vs k))
-      ∙ sym (total-sum p _ _ _ c (products_total-row_from i v vs))
+      total-add (monomial_cmp ring.weights) (monomial_cmp_linear ring.weights) ring.modulus g additive _ _
+      ∙ (λ k. sum_mod ring.modulus (first k) (total-entry_products (suc i) vs k))
+      ∙ sym (total-sum ring.modulus _ _ _ c (products_total-row_from i v vs))
     where
-      first : total p g (polynomial_product p (entry i c) (entry j v.terms)) ≡ total p (λ t. if t.at.position == i then products_total p j g v.terms t else 0) c
+      first : total ring.modulus g (polynomial_product ring (entry i c) (entry j v.terms)) ≡ total ring.modulus (λ t. if t.at.position == i then products_total ring.modulus j g v.terms t else 0) c
       first =
-          total-combination monomial_keys p (λ a. a) (λ _. entry j v.terms) g additive (entry i c)
-          ∙ total-entry p i (share product p (λ a. a) (λ _. entry j v.terms) g) c
+          total-combination (monomial_keys ring.weights) ring.modulus (λ a. a) (λ _. entry j v.terms) g additive (entry i c)
+          ∙ total-entry ring.modulus i (share product ring.modulus (λ a. a) (λ _. entry j v.terms) g) c
 
-module _ (p : ℕ) (positive : 0 < p) where
-  IsCanonical-entry_products : (j : ℕ) (c : List (Term Place)) (i : ℕ) (rows : List Vector) → IsCanonical monomial_cmp p (entry_products p j c i rows)
+module _ (ring : Ring) (positive : 0 < ring.modulus) where
+  IsCanonical-entry_products : (j : ℕ) (c : List (Term Place)) (i : ℕ) (rows : List Vector) → IsCanonical (monomial_cmp ring.weights) ring.modulus (entry_products ring j c i rows)
   IsCanonical-entry_products j c i [] = record { descending = tt; residues = tt }
-  IsCanonical-entry_products j c i (v ∷ vs) = IsCanonical-add monomial_cmp monomial_cmp_linear p positive _ _
+  IsCanonical-entry_products j c i (v ∷ vs) = IsCanonical-add (monomial_cmp ring.weights) (monomial_cmp_linear ring.weights) ring.modulus positive _ _
 
-  pub entry-row_combination_products : (rows : List Vector) (c : List (Term Place)) (j : ℕ) → entry j (row_combination p rows c) ≡ entry_products p j c 0 rows
+  pub entry-row_combination_products : (rows : List Vector) (c : List (Term Place)) (j : ℕ) → entry j (row_combination ring rows c) ≡ entry_products ring j c 0 rows
   entry-row_combination_products rows c j =
-      entry-combination p positive j (λ k. k.monomial) (λ k. row_at rows k.position) c
-      ∙ combination-same monomial_keys p positive (λ k. k.monomial) (λ k. entry j (row_at rows k.position)) c _ (IsCanonical-entry_products j c 0 rows)
+      entry-combination ring positive j (λ k. k.monomial) (λ k. row_at rows k.position) c
+      ∙ combination-same (monomial_keys ring.weights) ring.modulus positive (λ k. k.monomial) (λ k. entry j (row_at rows k.position)) c _ (IsCanonical-entry_products j c 0 rows)
       (λ g additive.
-      total-same p _ _ c (λ t. ap (λ us. products_total p j g us t % p) (sym (row_from-row_at 0 t.at.position rows) ∙ ap (row_from 0 rows) (zero-add t.at.position)))
-      ∙ sym (total-entry_products p j c g additive 0 rows))
+      total-same ring.modulus _ _ c (λ t. ap (λ us. products_total ring.modulus j g us t % ring.modulus) (sym (row_from-row_at 0 t.at.position rows) ∙ ap (row_from 0 rows) (zero-add t.at.position)))
+      ∙ sym (total-entry_products ring j c g additive 0 rows))

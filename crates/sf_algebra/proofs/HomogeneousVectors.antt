@@ -4,8 +4,9 @@ use Rattle.std.proofs.lemmas.Int.{ints}
 use Rattle.sf_algebra.specs.DegreeParts.{degree_part}
 use Rattle.sf_algebra.specs.Matrices.{Matrix, IsMatrix, row_degrees}
 use Rattle.sf_algebra.specs.MatrixOperations.{row_combination, identity, unit_vector}
-use Rattle.sf_algebra.specs.Monomials.{Monomial, exponent_sum}
+use Rattle.sf_algebra.specs.Monomials.{Monomial, monomial_degree}
 use Rattle.sf_algebra.specs.Multiples.{place_product, multiple, negative}
+use Rattle.sf_algebra.specs.Rings.{Ring}
 use Rattle.sf_algebra.specs.Sums.{add}
 use Rattle.sf_algebra.specs.Terms.{Term}
 use Rattle.sf_algebra.specs.Vectors.{Place, Vector, place_cmp, generator_degree, IsHomogeneous, IsVector}
@@ -22,58 +23,58 @@ use Rattle.sf_algebra.proofs.RowParts.{HasCanonicalRows}
 use Rattle.sf_algebra.proofs.Rows.{IsCanonical-row_combination}
 use Rattle.sf_algebra.proofs.UnitRows.{row_combination-unit_rows}
 
-module _ (p : ℕ) (degrees : List ℤ) where
-  pub IsVector-add : 0 < p → (d : ℤ) (us vs : List (Term Place)) → IsVector p degrees (record { degree = d; terms = us }) → IsVector p degrees (record { degree = d; terms = vs })
-      → IsVector p degrees (record { degree = d; terms = add place_cmp p us vs })
+module _ (ring : Ring) (degrees : List ℤ) where
+  pub IsVector-add : 0 < ring.modulus → (d : ℤ) (us vs : List (Term Place)) → IsVector ring degrees (record { degree = d; terms = us }) → IsVector ring degrees (record { degree = d; terms = vs })
+      → IsVector ring degrees (record { degree = d; terms = add (place_cmp ring.weights) ring.modulus us vs })
   IsVector-add positive d us vs h k = record {
-    canonical = IsCanonical-add place_cmp place_cmp_linear p positive us vs;
-    homogeneous = IsHomogeneous-add degrees p d us vs h.homogeneous k.homogeneous;
+    canonical = IsCanonical-add (place_cmp ring.weights) (place_cmp_linear ring.weights) ring.modulus positive us vs;
+    homogeneous = IsHomogeneous-add degrees ring d us vs h.homogeneous k.homogeneous;
   }
 
-  pub IsVector-nil : (d : ℤ) → IsVector p degrees (record { degree = d; terms = [] })
+  pub IsVector-nil : (d : ℤ) → IsVector ring degrees (record { degree = d; terms = [] })
   IsVector-nil d = record { canonical = record { descending = tt; residues = tt }; homogeneous = tt }
 
-  pub IsVector-negative : (d : ℤ) (us : List (Term Place)) → IsVector p degrees (record { degree = d; terms = us }) → IsVector p degrees (record { degree = d; terms = negative p us })
-  IsVector-negative d us h = record { canonical = IsCanonical-negative place_cmp p us h.canonical; homogeneous = IsHomogeneous-negative degrees p d us h.homogeneous }
+  pub IsVector-negative : (d : ℤ) (us : List (Term Place)) → IsVector ring degrees (record { degree = d; terms = us }) → IsVector ring degrees (record { degree = d; terms = negative ring.modulus us })
+  IsVector-negative d us h = record { canonical = IsCanonical-negative (place_cmp ring.weights) ring.modulus us h.canonical; homogeneous = IsHomogeneous-negative degrees ring d us h.homogeneous }
 
-  pub IsVector-multiple : 0 < p → (d : ℤ) (s : Term Monomial) (us : List (Term Place)) → IsVector p degrees (record { degree = d; terms = us })
-      → IsVector p degrees (record { degree = d +ℤ pos (exponent_sum s.at); terms = multiple place_cmp place_product p s us })
+  pub IsVector-multiple : 0 < ring.modulus → (d : ℤ) (s : Term Monomial) (us : List (Term Place)) → IsVector ring degrees (record { degree = d; terms = us })
+      → IsVector ring degrees (record { degree = d +ℤ pos (monomial_degree ring.weights s.at); terms = multiple (place_cmp ring.weights) place_product ring.modulus s us })
   IsVector-multiple positive d s us h = record {
-    canonical = IsCanonical-multiple place_keys p positive s us;
-    homogeneous = IsHomogeneous-multiple degrees p d s us h.homogeneous;
+    canonical = IsCanonical-multiple (place_keys ring.weights) ring.modulus positive s us;
+    homogeneous = IsHomogeneous-multiple degrees ring d s us h.homogeneous;
   }
 
-  pub IsVector-unit_vector : 1 < p → (i : ℕ) → i < length degrees → IsVector p degrees (unit_vector (generator_degree degrees i) i)
+  pub IsVector-unit_vector : 1 < ring.modulus → (i : ℕ) → i < length degrees → IsVector ring degrees (unit_vector (generator_degree degrees i) i)
   IsVector-unit_vector above i within = record {
     canonical = record { descending = (tt, tt); residues = ((omega arith, above), tt) };
     homogeneous = ((within, omega (arith, ints)), tt);
   }
 
-  pub IsVector-degree_part : (d : ℤ) (v : Vector) → IsVector p degrees v → IsVector p degrees (record { degree = d; terms = degree_part degrees d v.terms })
-  IsVector-degree_part d v h = record { canonical = IsCanonical-filter _ place_cmp p v.terms h.canonical; homogeneous = IsHomogeneous-degree_part degrees d v.terms }
+  pub IsVector-degree_part : (d : ℤ) (v : Vector) → IsVector ring degrees v → IsVector ring degrees (record { degree = d; terms = degree_part ring.weights degrees d v.terms })
+  IsVector-degree_part d v h = record { canonical = IsCanonical-filter _ (place_cmp ring.weights) ring.modulus v.terms h.canonical; homogeneous = IsHomogeneous-degree_part ring.weights degrees d v.terms }
 
 -- a vector times the identity
-pub row_combination-identity : (p : ℕ) → 0 < p → (degrees : List ℤ) (v : Vector) → IsVector p degrees v → row_combination p (identity p degrees).rows v.terms ≡ v.terms
-row_combination-identity p positive degrees v h =
-    row_combination-unit_rows p positive degrees v.terms h.canonical (AllByRecursion-weaken _ _ (λ t k. k.0) v.terms h.homogeneous)
+pub row_combination-identity : (ring : Ring) → 0 < ring.modulus → (degrees : List ℤ) (v : Vector) → IsVector ring degrees v → row_combination ring (identity ring degrees).rows v.terms ≡ v.terms
+row_combination-identity ring positive degrees v h =
+    row_combination-unit_rows ring positive degrees v.terms h.canonical (AllByRecursion-weaken _ _ (λ t k. k.0) v.terms h.homogeneous)
 
 -- the rows of a matrix are homogeneous and canonical
-pub HasHomogeneousRows-from_IsMatrix : (m : Matrix) → IsMatrix m → HasHomogeneousRows m.target m.rows
+pub HasHomogeneousRows-from_IsMatrix : (m : Matrix) → IsMatrix m → HasHomogeneousRows m.ring.weights m.target m.rows
 HasHomogeneousRows-from_IsMatrix m h = AllByRecursion-weaken _ _ (λ v k. k.homogeneous) m.rows h
 
-pub HasCanonicalRows-from_IsMatrix : (m : Matrix) → IsMatrix m → HasCanonicalRows m.modulus m.rows
+pub HasCanonicalRows-from_IsMatrix : (m : Matrix) → IsMatrix m → HasCanonicalRows m.ring m.rows
 HasCanonicalRows-from_IsMatrix m h = AllByRecursion-weaken _ _ (λ v k. k.canonical) m.rows h
 
-module _ (m : Matrix) (positive : 0 < m.modulus) (is_matrix : IsMatrix m) where
+module _ (m : Matrix) (positive : 0 < m.ring.modulus) (is_matrix : IsMatrix m) where
   -- a vector times a matrix
-  pub IsVector-row_combination : (c : Vector) → IsVector m.modulus (row_degrees m) c → IsVector m.modulus m.target (record { degree = c.degree; terms = row_combination m.modulus m.rows c.terms })
+  pub IsVector-row_combination : (c : Vector) → IsVector m.ring (row_degrees m) c → IsVector m.ring m.target (record { degree = c.degree; terms = row_combination m.ring m.rows c.terms })
   IsVector-row_combination c h = record {
-    canonical = IsCanonical-row_combination m.modulus positive m.rows c.terms;
-    homogeneous = IsHomogeneous-row_combination m.target m.modulus m.rows (HasHomogeneousRows-from_IsMatrix m is_matrix) c.degree c.terms h.homogeneous;
+    canonical = IsCanonical-row_combination m.ring positive m.rows c.terms;
+    homogeneous = IsHomogeneous-row_combination m.target m.ring m.rows (HasHomogeneousRows-from_IsMatrix m is_matrix) c.degree c.terms h.homogeneous;
   }
 
   -- a vector that is a combination of the rows is one with coefficients of its degree
-  pub row_combination-IsVector : (v : Vector) → IsVector m.modulus m.target v → (c : List (Term Place)) → row_combination m.modulus m.rows c ≡ v.terms
-      → row_combination m.modulus m.rows (degree_part (row_degrees m) v.degree c) ≡ v.terms
+  pub row_combination-IsVector : (v : Vector) → IsVector m.ring m.target v → (c : List (Term Place)) → row_combination m.ring m.rows c ≡ v.terms
+      → row_combination m.ring m.rows (degree_part m.ring.weights (row_degrees m) v.degree c) ≡ v.terms
   row_combination-IsVector v h c e =
-      row_combination-degree_part m.target v.degree m.modulus m.rows (HasHomogeneousRows-from_IsMatrix m is_matrix) positive c (subst (IsHomogeneous m.target v.degree) (sym e) h.homogeneous) ∙ e
+      row_combination-degree_part m.target v.degree m.ring m.rows (HasHomogeneousRows-from_IsMatrix m is_matrix) positive c (subst (IsHomogeneous m.ring.weights m.target v.degree) (sym e) h.homogeneous) ∙ e

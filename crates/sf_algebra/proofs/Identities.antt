@@ -6,6 +6,7 @@ use Rattle.std.proofs.Math.ListN.{length-append}
 use Rattle.sf_algebra.specs.Matrices.{row_degrees, IsMatrix}
 use Rattle.sf_algebra.specs.MatrixOperations.{unit_vector, unit_rows, identity}
 use Rattle.sf_algebra.proofs.HomogeneousVectors.{IsVector-unit_vector}
+use Rattle.sf_algebra.specs.Rings.{Ring}
 use Rattle.sf_algebra.specs.Vectors.{Vector, IsVector}
 
 -- the degrees of the unit vectors
@@ -25,18 +26,18 @@ unit_rows-append i (d ∷ ds) es n e = ap (λ vs. unit_vector d i ∷ vs) (unit_
 pub unit_rows-push : (i : ℕ) (ds : List ℤ) (d : ℤ) (n : ℕ) → n ≡ i + length ds → unit_rows i (ds ++ d ∷ []) ≡ unit_rows i ds ++ unit_vector d n ∷ []
 unit_rows-push i ds d n e = unit_rows-append i ds (d ∷ []) n e
 
-module _ (p : ℕ) (above : 1 < p) where
-  IsVector-unit_rows : (front ds : List ℤ) (i : ℕ) → i ≡ length front → AllByRecursion (IsVector p (front ++ ds)) (unit_rows i ds)
+module _ (ring : Ring) (above : 1 < ring.modulus) where
+  IsVector-unit_rows : (front ds : List ℤ) (i : ℕ) → i ≡ length front → AllByRecursion (IsVector ring (front ++ ds)) (unit_rows i ds)
   IsVector-unit_rows front [] i e = tt
   IsVector-unit_rows front (d ∷ ds) i e =
       let inside : i < length (front ++ d ∷ ds) = rw length-append (omega arith) in
       let size : suc i ≡ length (front ++ d ∷ []) = rw length-append (omega arith) in (
-        subst (λ c. IsVector p (front ++ d ∷ ds) (unit_vector c i)) (get_or_at front d ds (pos 0) i (sym e)) (IsVector-unit_vector p (front ++ d ∷ ds) above i inside),
-        subst (λ all. AllByRecursion (IsVector p all) (unit_rows (suc i) ds)) (append_assoc front (d ∷ []) ds) (IsVector-unit_rows (front ++ d ∷ []) ds (suc i) size),
+        subst (λ c. IsVector ring (front ++ d ∷ ds) (unit_vector c i)) (get_or_at front d ds (pos 0) i (sym e)) (IsVector-unit_vector ring (front ++ d ∷ ds) above i inside),
+        subst (λ all. AllByRecursion (IsVector ring all) (unit_rows (suc i) ds)) (append_assoc front (d ∷ []) ds) (IsVector-unit_rows (front ++ d ∷ []) ds (suc i) size),
       )
 
-  pub IsMatrix-identity : (ds : List ℤ) → IsMatrix (identity p ds)
+  pub IsMatrix-identity : (ds : List ℤ) → IsMatrix (identity ring ds)
   IsMatrix-identity ds = IsVector-unit_rows [] ds 0 refl
 
-pub row_degrees-identity : (p : ℕ) (ds : List ℤ) → row_degrees (identity p ds) ≡ ds
-row_degrees-identity p ds = degrees-unit_rows 0 ds
+pub row_degrees-identity : (ring : Ring) (ds : List ℤ) → row_degrees (identity ring ds) ≡ ds
+row_degrees-identity ring ds = degrees-unit_rows 0 ds

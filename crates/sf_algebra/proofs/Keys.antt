@@ -4,6 +4,7 @@ use Rattle.std.specs.declared.cmp.Ordering.{Ordering}
 use Rattle.sf_algebra.specs.Monomials.{Monomial, one, product, monomial_cmp}
 use Rattle.sf_algebra.specs.Multiples.{place_product}
 use Rattle.sf_algebra.specs.Orders.{IsLinearOrder}
+use Rattle.sf_algebra.specs.Rings.{Weights}
 use Rattle.sf_algebra.specs.Vectors.{Place, place_cmp}
 use Rattle.sf_algebra.proofs.Orders.{monomial_cmp_linear, place_cmp_linear}
 use Rattle.sf_algebra.proofs.Places.{place_cmp-place_product, place_product-one, place_product-assoc}
@@ -18,23 +19,23 @@ pub record Keys (K : Type 0) : Type 0 where
   pub act_cmp : (a : Monomial) (k l : K) → cmp (act a k) (act a l) ≡ cmp k l
 
 -- those of polynomials
-abbrev pub monomial_keys : Keys Monomial
-monomial_keys = record {
-  cmp = monomial_cmp;
-  order = monomial_cmp_linear;
+abbrev pub monomial_keys : Weights → Keys Monomial
+monomial_keys weights = record {
+  cmp = monomial_cmp weights;
+  order = monomial_cmp_linear weights;
   act = product;
   act_one = product-one_first;
   act_product = product-assoc;
-  act_cmp = monomial_cmp-product;
+  act_cmp = monomial_cmp-product weights;
 }
 
 -- those of vectors
-abbrev pub place_keys : Keys Place
-place_keys = record {
-  cmp = place_cmp;
-  order = place_cmp_linear;
+abbrev pub place_keys : Weights → Keys Place
+place_keys weights = record {
+  cmp = place_cmp weights;
+  order = place_cmp_linear weights;
   act = place_product;
   act_one = place_product-one;
   act_product = place_product-assoc;
-  act_cmp = place_cmp-place_product;
+  act_cmp = place_cmp-place_product weights;
 }

@@ -3,6 +3,7 @@ use Rattle.std.proofs.Common.{◌≡◌, refl, ℕ, suc, ◌+◌, ◌*◌, ◌<�
 use Rattle.std.specs.List.{flat_map}
 use Rattle.sf_algebra.specs.Matrices.{Matrix, row_degrees, IsMatrix}
 use Rattle.sf_algebra.specs.MatrixOperations.{unit_vector, unit_rows, identity, matrix_product, moved, kronecker}
+use Rattle.sf_algebra.specs.Rings.{Ring}
 use Rattle.sf_algebra.specs.Vectors.{Vector}
 use Rattle.sf_algebra.proofs.HomogeneousVectors.{HasCanonicalRows-from_IsMatrix}
 use Rattle.sf_algebra.proofs.Identities.{IsMatrix-identity, row_degrees-identity}
@@ -38,53 +39,53 @@ pub scattered_rows-push : (n k : ℕ) (es : List ℤ) (e : ℤ) (v : Vector) (m 
 scattered_rows-push n k [] e v m same = ap (λ q. record { degree = v.degree +ℤ e; terms = scattered n q v.terms } ∷ []) (let h : k ≡ m = omega arith in h)
 scattered_rows-push n k (c ∷ es) e v m same = ap (λ l. record { degree = v.degree +ℤ c; terms = scattered n k v.terms } ∷ l) (scattered_rows-push n (suc k) es e v m (omega arith))
 
-module _ (p n : ℕ) (positive : 0 < p) where
-  kronecker_row-moved : (d : ℤ) (i : ℕ) (ws : List Vector) → HasCanonicalRows p ws → kronecker_row p n (unit_vector d i) ws ≡ moved_rows d (i * n) ws
+module _ (ring : Ring) (n : ℕ) (positive : 0 < ring.modulus) where
+  kronecker_row-moved : (d : ℤ) (i : ℕ) (ws : List Vector) → HasCanonicalRows ring ws → kronecker_row ring n (unit_vector d i) ws ≡ moved_rows d (i * n) ws
   kronecker_row-moved d i [] h = refl
-  kronecker_row-moved d i (w ∷ ws) h = λ j. record { degree = d +ℤ w.degree; terms = kronecker_terms-unit_first p n positive i w.terms h.0 j } ∷ kronecker_row-moved d i ws h.1 j
+  kronecker_row-moved d i (w ∷ ws) h = λ j. record { degree = d +ℤ w.degree; terms = kronecker_terms-unit_first ring n positive i w.terms h.0 j } ∷ kronecker_row-moved d i ws h.1 j
 
-  kronecker_rows-repeated : (i : ℕ) (ds : List ℤ) (ws : List Vector) → HasCanonicalRows p ws → kronecker_rows p n (unit_rows i ds) ws ≡ repeated_rows n i ds ws
+  kronecker_rows-repeated : (i : ℕ) (ds : List ℤ) (ws : List Vector) → HasCanonicalRows ring ws → kronecker_rows ring n (unit_rows i ds) ws ≡ repeated_rows n i ds ws
   kronecker_rows-repeated i [] ws h = refl
   kronecker_rows-repeated i (d ∷ ds) ws h = λ j. kronecker_row-moved d i ws h j ++ kronecker_rows-repeated (suc i) ds ws h j
 
-  kronecker_row-scattered : (k : ℕ) (es : List ℤ) (v : Vector) → length es ≤ n → HasCanonicalRows p (v ∷ []) → kronecker_row p n v (unit_rows k es) ≡ scattered_rows n k es v
+  kronecker_row-scattered : (k : ℕ) (es : List ℤ) (v : Vector) → length es ≤ n → HasCanonicalRows ring (v ∷ []) → kronecker_row ring n v (unit_rows k es) ≡ scattered_rows n k es v
   kronecker_row-scattered k [] v size h = refl
   kronecker_row-scattered k (e ∷ es) v size h =
-      λ j. record { degree = v.degree +ℤ e; terms = kronecker_terms-unit p n positive k (omega arith) v.terms h.0 j } ∷ kronecker_row-scattered (suc k) es v (omega arith) h j
+      λ j. record { degree = v.degree +ℤ e; terms = kronecker_terms-unit ring n positive k (omega arith) v.terms h.0 j } ∷ kronecker_row-scattered (suc k) es v (omega arith) h j
 
-  kronecker_rows-scattered : (es : List ℤ) (vs : List Vector) → length es ≤ n → HasCanonicalRows p vs → kronecker_rows p n vs (unit_rows 0 es) ≡ flat_map (scattered_rows n 0 es) vs
+  kronecker_rows-scattered : (es : List ℤ) (vs : List Vector) → length es ≤ n → HasCanonicalRows ring vs → kronecker_rows ring n vs (unit_rows 0 es) ≡ flat_map (scattered_rows n 0 es) vs
   kronecker_rows-scattered es [] size h = refl
   kronecker_rows-scattered es (v ∷ vs) size h = λ j. kronecker_row-scattered 0 es v size (h.0, tt) j ++ kronecker_rows-scattered es vs size h.1 j
 
 -- with an identity first, the rows are repeated
-pub rows-kronecker_identity_first : (ds : List ℤ) (b : Matrix) → 0 < b.modulus → IsMatrix b → (kronecker (identity b.modulus ds) b).rows ≡ repeated_rows (length b.target) 0 ds b.rows
-rows-kronecker_identity_first ds b positive h = kronecker_rows-repeated b.modulus (length b.target) positive 0 ds b.rows (HasCanonicalRows-from_IsMatrix b h)
+pub rows-kronecker_identity_first : (ds : List ℤ) (b : Matrix) → 0 < b.ring.modulus → IsMatrix b → (kronecker (identity b.ring ds) b).rows ≡ repeated_rows (length b.target) 0 ds b.rows
+rows-kronecker_identity_first ds b positive h = kronecker_rows-repeated b.ring (length b.target) positive 0 ds b.rows (HasCanonicalRows-from_IsMatrix b h)
 
 -- with an identity second, they are scattered
-pub rows-kronecker_identity : (a : Matrix) (es : List ℤ) → 0 < a.modulus → IsMatrix a → (kronecker a (identity a.modulus es)).rows ≡ flat_map (scattered_rows (length es) 0 es) a.rows
-rows-kronecker_identity a es positive h = kronecker_rows-scattered a.modulus (length es) positive es a.rows (omega arith) (HasCanonicalRows-from_IsMatrix a h)
+pub rows-kronecker_identity : (a : Matrix) (es : List ℤ) → 0 < a.ring.modulus → IsMatrix a → (kronecker a (identity a.ring es)).rows ≡ flat_map (scattered_rows (length es) 0 es) a.rows
+rows-kronecker_identity a es positive h = kronecker_rows-scattered a.ring (length es) positive es a.rows (omega arith) (HasCanonicalRows-from_IsMatrix a h)
 
-pub kronecker-factors : (a b : Matrix) → 1 < a.modulus → a.modulus ≡ b.modulus → IsMatrix a → IsMatrix b
-    → kronecker a b ≡ matrix_product (kronecker a (identity a.modulus (row_degrees b))) (kronecker (identity a.modulus a.target) b)
+pub kronecker-factors : (a b : Matrix) → 1 < a.ring.modulus → a.ring ≡ b.ring → IsMatrix a → IsMatrix b
+    → kronecker a b ≡ matrix_product (kronecker a (identity a.ring (row_degrees b))) (kronecker (identity a.ring a.target) b)
 kronecker-factors a b above moduli h k =
-    let positive : 0 < a.modulus = omega arith in
-    (λ i. kronecker (sym (matrix_product-identity a positive h) i) (sym (matrix_product-identity_first b (subst (λ p. 0 < p) moduli positive) k) i))
-    ∙ ap (λ p. kronecker (matrix_product a (identity a.modulus a.target)) (matrix_product (identity p (row_degrees b)) b)) (sym moduli)
-    ∙ kronecker-matrix_product a (identity a.modulus a.target) (identity a.modulus (row_degrees b)) b
-    (record { positive = positive; moduli = refl; degrees = row_degrees-identity a.modulus a.target })
+    let positive : 0 < a.ring.modulus = omega arith in
+    (λ i. kronecker (sym (matrix_product-identity a positive h) i) (sym (matrix_product-identity_first b (subst (λ ring. 0 < ring.modulus) moduli positive) k) i))
+    ∙ ap (λ ring. kronecker (matrix_product a (identity a.ring a.target)) (matrix_product (identity ring (row_degrees b)) b)) (sym moduli)
+    ∙ kronecker-matrix_product a (identity a.ring a.target) (identity a.ring (row_degrees b)) b
+    (record { positive = positive; moduli = refl; degrees = row_degrees-identity a.ring a.target })
     (record { positive = positive; moduli = moduli; degrees = refl })
     refl
-    (IsMatrix-identity a.modulus above (row_degrees b))
+    (IsMatrix-identity a.ring above (row_degrees b))
 
 -- the two factors may come in either order
-pub kronecker-factors_exchanged : (a b : Matrix) → 1 < a.modulus → a.modulus ≡ b.modulus → IsMatrix a → IsMatrix b
-    → kronecker a b ≡ matrix_product (kronecker (identity a.modulus (row_degrees a)) b) (kronecker a (identity a.modulus b.target))
+pub kronecker-factors_exchanged : (a b : Matrix) → 1 < a.ring.modulus → a.ring ≡ b.ring → IsMatrix a → IsMatrix b
+    → kronecker a b ≡ matrix_product (kronecker (identity a.ring (row_degrees a)) b) (kronecker a (identity a.ring b.target))
 kronecker-factors_exchanged a b above moduli h k =
-    let positive : 0 < a.modulus = omega arith in
-    (λ i. kronecker (sym (matrix_product-identity_first a positive h) i) (sym (matrix_product-identity b (subst (λ p. 0 < p) moduli positive) k) i))
-    ∙ ap (λ p. kronecker (matrix_product (identity a.modulus (row_degrees a)) a) (matrix_product b (identity p b.target))) (sym moduli)
-    ∙ kronecker-matrix_product (identity a.modulus (row_degrees a)) a b (identity a.modulus b.target)
+    let positive : 0 < a.ring.modulus = omega arith in
+    (λ i. kronecker (sym (matrix_product-identity_first a positive h) i) (sym (matrix_product-identity b (subst (λ ring. 0 < ring.modulus) moduli positive) k) i))
+    ∙ ap (λ ring. kronecker (matrix_product (identity a.ring (row_degrees a)) a) (matrix_product b (identity ring b.target))) (sym moduli)
+    ∙ kronecker-matrix_product (identity a.ring (row_degrees a)) a b (identity a.ring b.target)
     (record { positive = positive; moduli = refl; degrees = refl })
-    (record { positive = subst (λ p. 0 < p) moduli positive; moduli = sym moduli; degrees = row_degrees-identity a.modulus b.target })
+    (record { positive = subst (λ ring. 0 < ring.modulus) moduli positive; moduli = sym moduli; degrees = row_degrees-identity a.ring b.target })
     moduli
     k

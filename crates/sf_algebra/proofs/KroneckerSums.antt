@@ -5,6 +5,7 @@ use Rattle.std.proofs.lemmas.Int.{ints}
 use Rattle.sf_algebra.specs.Matrices.{Matrix, IsMatrix}
 use Rattle.sf_algebra.specs.MatrixOperations.{identity, negated, stacked, moved, kronecker_terms, degree_sums, kronecker}
 use Rattle.sf_algebra.specs.Multiples.{place_product, negative_term, negative, combination}
+use Rattle.sf_algebra.specs.Rings.{Ring}
 use Rattle.sf_algebra.specs.Terms.{Term, IsCanonical}
 use Rattle.sf_algebra.specs.Vectors.{Place, Vector, place_cmp}
 use Rattle.sf_algebra.proofs.Associativity.{combination-negative, combination-negative_rows}
@@ -21,49 +22,49 @@ use Rattle.sf_algebra.proofs.Rows.{position_rows}
 use Rattle.sf_algebra.proofs.Stacks.{with_terms-same}
 
 -- the first matrix a stack
-pub kronecker-stacked : (a b c : Matrix) → a.modulus ≡ b.modulus → kronecker (stacked a b) c ≡ stacked (kronecker a c) (kronecker b c)
+pub kronecker-stacked : (a b c : Matrix) → a.ring ≡ b.ring → kronecker (stacked a b) c ≡ stacked (kronecker a c) (kronecker b c)
 kronecker-stacked a b c moduli =
     let n = length c.target in
-    let rows = flat_map-append (λ (v : Vector). kronecker_row a.modulus n v c.rows) a.rows b.rows
-    ∙ ap (λ p. kronecker_rows a.modulus n a.rows c.rows ++ kronecker_rows p n b.rows c.rows) moduli in
-    λ i. record { modulus = a.modulus; target = degree_sums a.target c.target; rows = rows i }
+    let rows = flat_map-append (λ (v : Vector). kronecker_row a.ring n v c.rows) a.rows b.rows
+    ∙ ap (λ ring. kronecker_rows a.ring n a.rows c.rows ++ kronecker_rows ring n b.rows c.rows) moduli in
+    λ i. record { ring = a.ring; target = degree_sums a.target c.target; rows = rows i }
 
 moved-negative : (p by : ℕ) (ts : List (Term Place)) → moved by (negative p ts) ≡ negative p (moved by ts)
 moved-negative p by [] = refl
 moved-negative p by (t ∷ ts) = ap (λ us. negative_term p (moved_term by t) ∷ us) (moved-negative p by ts)
 
-module _ (p n : ℕ) (positive : 0 < p) where
-  pub kronecker_terms-negative_first : (v w : List (Term Place)) → IsCanonical place_cmp p v → kronecker_terms p n (negative p v) w ≡ negative p (kronecker_terms p n v w)
-  kronecker_terms-negative_first v w h = combination-negative place_keys place_keys p positive (λ k. k.monomial) (λ k. moved (k.position * n) w) (position_rows (λ i. moved (i * n) w)) v h
+module _ (ring : Ring) (n : ℕ) (positive : 0 < ring.modulus) where
+  pub kronecker_terms-negative_first : (v w : List (Term Place)) → IsCanonical (place_cmp ring.weights) ring.modulus v → kronecker_terms ring n (negative ring.modulus v) w ≡ negative ring.modulus (kronecker_terms ring n v w)
+  kronecker_terms-negative_first v w h = combination-negative (place_keys ring.weights) (place_keys ring.weights) ring.modulus positive (λ k. k.monomial) (λ k. moved (k.position * n) w) (position_rows ring.weights (λ i. moved (i * n) w)) v h
 
-  pub kronecker_terms-negative : (v w : List (Term Place)) → IsCanonical place_cmp p w → kronecker_terms p n v (negative p w) ≡ negative p (kronecker_terms p n v w)
+  pub kronecker_terms-negative : (v w : List (Term Place)) → IsCanonical (place_cmp ring.weights) ring.modulus w → kronecker_terms ring n v (negative ring.modulus w) ≡ negative ring.modulus (kronecker_terms ring n v w)
   kronecker_terms-negative v w h =
-      (λ i. combination place_cmp place_product p (λ (k : Place). k.monomial) (λ (k : Place). moved-negative p (k.position * n) w i) v)
-      ∙ combination-negative_rows place_keys p positive (λ k. k.monomial) (λ k. moved (k.position * n) w) v (λ k. IsCanonical-moved p (k.position * n) w h)
+      (λ i. combination (place_cmp ring.weights) place_product ring.modulus (λ (k : Place). k.monomial) (λ (k : Place). moved-negative ring.modulus (k.position * n) w i) v)
+      ∙ combination-negative_rows (place_keys ring.weights) ring.modulus positive (λ k. k.monomial) (λ k. moved (k.position * n) w) v (λ k. IsCanonical-moved ring (k.position * n) w h)
 
 kept : (vs : List Vector) → with_terms (λ ts. ts) vs ≡ vs
 kept vs = with_terms-same (λ ts. ts) vs (AllByRecursion-always _ (λ v. refl) vs)
 
 -- the negative of the first matrix
-pub kronecker-negated_first : (a b : Matrix) → 0 < a.modulus → IsMatrix a → kronecker (negated a) b ≡ negated (kronecker a b)
+pub kronecker-negated_first : (a b : Matrix) → 0 < a.ring.modulus → IsMatrix a → kronecker (negated a) b ≡ negated (kronecker a b)
 kronecker-negated_first a b positive h =
-    let p = a.modulus in
+    let ring = a.ring in
     let n = length b.target in
-    let rows = ap (kronecker_rows p n (with_terms (negative p) a.rows)) (sym (kept b.rows))
-    ∙ kronecker_rows-with_terms p n n (negative p) (λ ts. ts) (negative p) a.rows b.rows
-    (AllByRecursion-weaken _ _ (λ u k. AllByRecursion-always _ (λ v. kronecker_terms-negative_first p n positive u.terms v.terms k.canonical) b.rows) a.rows h) in
-    λ i. record { modulus = p; target = degree_sums a.target b.target; rows = rows i }
+    let rows = ap (kronecker_rows ring n (with_terms (negative ring.modulus) a.rows)) (sym (kept b.rows))
+    ∙ kronecker_rows-with_terms ring n n (negative ring.modulus) (λ ts. ts) (negative ring.modulus) a.rows b.rows
+    (AllByRecursion-weaken _ _ (λ u k. AllByRecursion-always _ (λ v. kronecker_terms-negative_first ring n positive u.terms v.terms k.canonical) b.rows) a.rows h) in
+    λ i. record { ring = ring; target = degree_sums a.target b.target; rows = rows i }
 
 -- and of the second
-pub kronecker-negated : (a b : Matrix) → 0 < a.modulus → a.modulus ≡ b.modulus → IsMatrix b → kronecker a (negated b) ≡ negated (kronecker a b)
+pub kronecker-negated : (a b : Matrix) → 0 < a.ring.modulus → a.ring ≡ b.ring → IsMatrix b → kronecker a (negated b) ≡ negated (kronecker a b)
 kronecker-negated a b positive moduli h =
-    let p = a.modulus in
+    let ring = a.ring in
     let n = length b.target in
-    let rows = ap (λ vs. kronecker_rows p n vs (with_terms (negative b.modulus) b.rows)) (sym (kept a.rows))
-    ∙ ap (λ q. kronecker_rows p n (with_terms (λ ts. ts) a.rows) (with_terms (negative q) b.rows)) (sym moduli)
-    ∙ kronecker_rows-with_terms p n n (λ ts. ts) (negative p) (negative p) a.rows b.rows
-    (AllByRecursion-always _ (λ u. AllByRecursion-weaken _ _ (λ v k. kronecker_terms-negative p n positive u.terms v.terms (subst (λ q. IsCanonical place_cmp q v.terms) (sym moduli) k.canonical)) b.rows h) a.rows) in
-    λ i. record { modulus = p; target = degree_sums a.target b.target; rows = rows i }
+    let rows = ap (λ vs. kronecker_rows ring n vs (with_terms (negative b.ring.modulus) b.rows)) (sym (kept a.rows))
+    ∙ ap (λ q. kronecker_rows ring n (with_terms (λ ts. ts) a.rows) (with_terms (negative q.modulus) b.rows)) (sym moduli)
+    ∙ kronecker_rows-with_terms ring n n (λ ts. ts) (negative ring.modulus) (negative ring.modulus) a.rows b.rows
+    (AllByRecursion-always _ (λ u. AllByRecursion-weaken _ _ (λ v k. kronecker_terms-negative ring n positive u.terms v.terms (subst (λ q. IsCanonical (place_cmp q.weights) q.modulus v.terms) (sym moduli) k.canonical)) b.rows h) a.rows) in
+    λ i. record { ring = ring; target = degree_sums a.target b.target; rows = rows i }
 
 zero-plus : (d : ℤ) → pos 0 +ℤ d ≡ d
 zero-plus d = omega (arith, ints)
@@ -81,7 +82,7 @@ plus-none [] = refl
 plus-none (e ∷ es) = λ i. zero-plus e i ∷ plus-none es i
 
 -- with the identity of the ring, the free module with one generator of degree 0
-pub kronecker-one : (b : Matrix) → 0 < b.modulus → IsMatrix b → kronecker (identity b.modulus (pos 0 ∷ [])) b ≡ b
+pub kronecker-one : (b : Matrix) → 0 < b.ring.modulus → IsMatrix b → kronecker (identity b.ring (pos 0 ∷ [])) b ≡ b
 kronecker-one b positive h =
     let rows = rows-kronecker_identity_first (pos 0 ∷ []) b positive h ∙ append-nil (moved_rows (pos 0) (0 * length b.target) b.rows) ∙ moved_rows-none (0 * length b.target) (zero-mul (length b.target)) b.rows in
-    λ i. record { modulus = b.modulus; target = (append-nil (map (λ e. pos 0 +ℤ e) b.target) ∙ plus-none b.target) i; rows = rows i }
+    λ i. record { ring = b.ring; target = (append-nil (map (λ e. pos 0 +ℤ e) b.target) ∙ plus-none b.target) i; rows = rows i }

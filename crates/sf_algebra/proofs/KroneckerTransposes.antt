@@ -41,9 +41,9 @@ no_rows a b i j none =
 no_columns : (a b : Matrix) (i j : ℕ) → IsMatrix (kronecker a b) → length b.target ≡ 0 → entry j (row_at (kronecker a b).rows i) ≡ []
 no_columns a b i j h none =
     let size : length (degree_sums a.target b.target) ≡ 0 = length-degree_sums a.target b.target ∙ ap (λ n. length a.target * n) none ∙ mul-zero (length a.target) in
-    entry-outside _ (row_at (kronecker a b).rows i) j (IsWithin-matrix_row a.modulus (degree_sums a.target b.target) (kronecker a b).rows h i) (omega arith)
+    entry-outside _ (row_at (kronecker a b).rows i) j (IsWithin-matrix_row a.ring (degree_sums a.target b.target) (kronecker a b).rows h i) (omega arith)
 
-module _ (a b : Matrix) (positive : 0 < a.modulus) (moduli : a.modulus ≡ b.modulus) (h : IsMatrix a) (k : IsMatrix b) where
+module _ (a b : Matrix) (positive : 0 < a.ring.modulus) (moduli : a.ring ≡ b.ring) (h : IsMatrix a) (k : IsMatrix b) where
   columns : length (transposed b).rows ≡ length b.target
   columns = length-column_rows b.rows 0 b.target
 
@@ -55,7 +55,7 @@ module _ (a b : Matrix) (positive : 0 < a.modulus) (moduli : a.modulus ≡ b.mod
       → entry (j * length b.target + c) (row_at (kronecker a b).rows (i * length b.rows + r)) ≡ entry (i * length b.rows + r) (row_at (kronecker (transposed a) (transposed b)).rows (j * length b.target + c))
   pairs i r j c row column =
       entry-kronecker a b positive k i r j c row column
-      ∙ (λ l. polynomial_product a.modulus (sym (entry-transposed a h i j) l) (sym (entry-transposed b k r c) l))
+      ∙ (λ l. polynomial_product a.ring (sym (entry-transposed a h i j) l) (sym (entry-transposed b k r c) l))
       ∙ sym (entry-kronecker (transposed a) (transposed b) positive (IsMatrix-transposed b k) j c i r (rw columns column) (rw rows row))
       ∙ (λ l. entry (i * rows l + r) (row_at (kronecker (transposed a) (transposed b)).rows (j * columns l + c)))
 

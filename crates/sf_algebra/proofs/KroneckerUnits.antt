@@ -6,6 +6,7 @@ use Rattle.std.proofs.lemmas.Bool.Decides.{nat_tests}
 use Rattle.sf_algebra.specs.MatrixOperations.{unit_vector, moved, kronecker_terms, degree_sums}
 use Rattle.sf_algebra.specs.Monomials.{one, monomial_cmp}
 use Rattle.sf_algebra.specs.Residues.{sum_mod}
+use Rattle.sf_algebra.specs.Rings.{Ring, Weights}
 use Rattle.sf_algebra.specs.Sums.{total}
 use Rattle.sf_algebra.specs.Terms.{Term, IsDescending, IsNonzeroResidue, IsCanonical}
 use Rattle.sf_algebra.specs.Vectors.{Place, Vector, place_cmp, generator_degree, IsVector}
@@ -25,18 +26,18 @@ use Rattle.sf_algebra.proofs.Stacks.{AllByRecursion-map}
 use Rattle.sf_algebra.proofs.Totals.{IsAdditive, additive-reduced, total-cons, total-nil, total-reduced}
 use Rattle.sf_algebra.proofs.UnitRows.{unit_term}
 
-IsDescending-moved : (by : ℕ) (ts : List (Term Place)) → IsDescending place_cmp ts → IsDescending place_cmp (moved by ts)
-IsDescending-moved by [] h = tt
-IsDescending-moved by (t ∷ ts) h = (
+IsDescending-moved : (weights : Weights) (by : ℕ) (ts : List (Term Place)) → IsDescending (place_cmp weights) ts → IsDescending (place_cmp weights) (moved by ts)
+IsDescending-moved weights by [] h = tt
+IsDescending-moved weights by (t ∷ ts) h = (
   AllByRecursion-map _ (moved_term by) ts
       (AllByRecursion-weaken _ _
-      (λ u less. ap (λ o. ordering_then o (monomial_cmp u.at.monomial t.at.monomial)) (nat_cmp-add by t.at.position u.at.position) ∙ less)
+      (λ u less. ap (λ o. ordering_then o (monomial_cmp weights u.at.monomial t.at.monomial)) (nat_cmp-add by t.at.position u.at.position) ∙ less)
       ts h.0),
-  IsDescending-moved by ts h.1,
+  IsDescending-moved weights by ts h.1,
 )
 
-pub IsCanonical-moved : (p by : ℕ) (ts : List (Term Place)) → IsCanonical place_cmp p ts → IsCanonical place_cmp p (moved by ts)
-IsCanonical-moved p by ts h = record { descending = IsDescending-moved by ts h.descending; residues = AllByRecursion-map (IsNonzeroResidue p) (moved_term by) ts h.residues }
+pub IsCanonical-moved : (ring : Ring) (by : ℕ) (ts : List (Term Place)) → IsCanonical (place_cmp ring.weights) ring.modulus ts → IsCanonical (place_cmp ring.weights) ring.modulus (moved by ts)
+IsCanonical-moved ring by ts h = record { descending = IsDescending-moved ring.weights by ts h.descending; residues = AllByRecursion-map (IsNonzeroResidue ring.modulus) (moved_term by) ts h.residues }
 
 -- terms at each n-th position, from k on
 abbrev pub scattered : ℕ → ℕ → List (Term Place) → List (Term Place)
@@ -52,62 +53,62 @@ nat_cmp-scattered n k a b positive =
       ]
     ]
 
-IsDescending-scattered : (n k : ℕ) → 0 < n → (ts : List (Term Place)) → IsDescending place_cmp ts → IsDescending place_cmp (scattered n k ts)
-IsDescending-scattered n k positive [] h = tt
-IsDescending-scattered n k positive (t ∷ ts) h = (
+IsDescending-scattered : (weights : Weights) (n k : ℕ) → 0 < n → (ts : List (Term Place)) → IsDescending (place_cmp weights) ts → IsDescending (place_cmp weights) (scattered n k ts)
+IsDescending-scattered weights n k positive [] h = tt
+IsDescending-scattered weights n k positive (t ∷ ts) h = (
   AllByRecursion-map _ (λ (t : Term Place). record { at = record { position = t.at.position * n + k; monomial = t.at.monomial }; coefficient = t.coefficient }) ts
       (AllByRecursion-weaken _ _
-      (λ u less. ap (λ o. ordering_then o (monomial_cmp u.at.monomial t.at.monomial)) (nat_cmp-scattered n k t.at.position u.at.position positive) ∙ less)
+      (λ u less. ap (λ o. ordering_then o (monomial_cmp weights u.at.monomial t.at.monomial)) (nat_cmp-scattered n k t.at.position u.at.position positive) ∙ less)
       ts h.0),
-  IsDescending-scattered n k positive ts h.1,
+  IsDescending-scattered weights n k positive ts h.1,
 )
 
-pub IsCanonical-scattered : (p n k : ℕ) → 0 < n → (ts : List (Term Place)) → IsCanonical place_cmp p ts → IsCanonical place_cmp p (scattered n k ts)
-IsCanonical-scattered p n k positive ts h = record {
-  descending = IsDescending-scattered n k positive ts h.descending;
-  residues = AllByRecursion-map (IsNonzeroResidue p) (λ (t : Term Place). record { at = record { position = t.at.position * n + k; monomial = t.at.monomial }; coefficient = t.coefficient }) ts h.residues;
+pub IsCanonical-scattered : (ring : Ring) (n k : ℕ) → 0 < n → (ts : List (Term Place)) → IsCanonical (place_cmp ring.weights) ring.modulus ts → IsCanonical (place_cmp ring.weights) ring.modulus (scattered n k ts)
+IsCanonical-scattered ring n k positive ts h = record {
+  descending = IsDescending-scattered ring.weights n k positive ts h.descending;
+  residues = AllByRecursion-map (IsNonzeroResidue ring.modulus) (λ (t : Term Place). record { at = record { position = t.at.position * n + k; monomial = t.at.monomial }; coefficient = t.coefficient }) ts h.residues;
 }
 
-module _ (p n : ℕ) (positive : 0 < p) where
+module _ (ring : Ring) (n : ℕ) (positive : 0 < ring.modulus) where
   -- a unit vector before a vector moves it
-  pub kronecker_terms-unit_first : (i : ℕ) (w : List (Term Place)) → IsCanonical place_cmp p w → kronecker_terms p n (unit_term i ∷ []) w ≡ moved (i * n) w
+  pub kronecker_terms-unit_first : (i : ℕ) (w : List (Term Place)) → IsCanonical (place_cmp ring.weights) ring.modulus w → kronecker_terms ring n (unit_term i ∷ []) w ≡ moved (i * n) w
   kronecker_terms-unit_first i w h =
-      combination-one place_keys p positive (λ k. k.monomial) (λ k. moved (k.position * n) w) (unit_term i)
-      ∙ multiple-one place_keys p positive (moved (i * n) w) (IsCanonical-moved p (i * n) w h)
+      combination-one (place_keys ring.weights) ring.modulus positive (λ k. k.monomial) (λ k. moved (k.position * n) w) (unit_term i)
+      ∙ multiple-one (place_keys ring.weights) ring.modulus positive (moved (i * n) w) (IsCanonical-moved ring (i * n) w h)
 
   -- a unit vector behind a vector scatters it
-  pub kronecker_terms-unit : (k : ℕ) → 0 < n → (v : List (Term Place)) → IsCanonical place_cmp p v → kronecker_terms p n v (unit_term k ∷ []) ≡ scattered n k v
+  pub kronecker_terms-unit : (k : ℕ) → 0 < n → (v : List (Term Place)) → IsCanonical (place_cmp ring.weights) ring.modulus v → kronecker_terms ring n v (unit_term k ∷ []) ≡ scattered n k v
   kronecker_terms-unit k some v h =
-      same_from_total place_cmp place_cmp_linear p positive _ _ (IsCanonical-kronecker_terms p n positive v (unit_term k ∷ [])) (IsCanonical-scattered p n k some v h)
+      same_from_total (place_cmp ring.weights) (place_cmp_linear ring.weights) ring.modulus positive _ _ (IsCanonical-kronecker_terms ring n positive v (unit_term k ∷ [])) (IsCanonical-scattered ring n k some v h)
       (λ g additive.
-      total-kronecker_terms p n positive g additive v (unit_term k ∷ [])
-      ∙ total-same p _ _ v (λ t. single g additive t)
-      ∙ sym (total-map p g (λ (t : Term Place). record { at = record { position = t.at.position * n + k; monomial = t.at.monomial }; coefficient = t.coefficient }) v))
+      total-kronecker_terms ring n positive g additive v (unit_term k ∷ [])
+      ∙ total-same ring.modulus _ _ v (λ t. single g additive t)
+      ∙ sym (total-map ring.modulus g (λ (t : Term Place). record { at = record { position = t.at.position * n + k; monomial = t.at.monomial }; coefficient = t.coefficient }) v))
     where
-      single : (g : Term Place → ℕ) → IsAdditive p g → (t : Term Place)
-          → total p (λ u. g (kronecker_term p n t u)) (unit_term k ∷ []) % p ≡ g (record { at = record { position = t.at.position * n + k; monomial = t.at.monomial }; coefficient = t.coefficient }) % p
+      single : (g : Term Place → ℕ) → IsAdditive ring.modulus g → (t : Term Place)
+          → total ring.modulus (λ u. g (kronecker_term ring.modulus n t u)) (unit_term k ∷ []) % ring.modulus ≡ g (record { at = record { position = t.at.position * n + k; monomial = t.at.monomial }; coefficient = t.coefficient }) % ring.modulus
       single g additive t =
-          total-reduced p (λ u. g (kronecker_term p n t u)) (unit_term k ∷ [])
-          ∙ total-cons p (λ u. g (kronecker_term p n t u)) (unit_term k) []
-          ∙ ap (sum_mod p _) (total-nil p (λ u. g (kronecker_term p n t u)))
-          ∙ sum_mod-zero p _
-          ∙ ap (λ u. g u % p) (λ i. record {
+          total-reduced ring.modulus (λ u. g (kronecker_term ring.modulus n t u)) (unit_term k ∷ [])
+          ∙ total-cons ring.modulus (λ u. g (kronecker_term ring.modulus n t u)) (unit_term k) []
+          ∙ ap (sum_mod ring.modulus _) (total-nil ring.modulus (λ u. g (kronecker_term ring.modulus n t u)))
+          ∙ sum_mod-zero ring.modulus _
+          ∙ ap (λ u. g u % ring.modulus) (λ i. record {
             at = record { position = t.at.position * n + k; monomial = (product-comm t.at.monomial one ∙ product-one_first t.at.monomial) i };
-            coefficient = product_mod-one p t.coefficient i;
+            coefficient = product_mod-one ring.modulus t.coefficient i;
           })
-          ∙ additive-reduced p g additive (record { position = t.at.position * n + k; monomial = t.at.monomial }) t.coefficient
+          ∙ additive-reduced ring.modulus g additive (record { position = t.at.position * n + k; monomial = t.at.monomial }) t.coefficient
 
-module _ (p : ℕ) (above : 1 < p) (ds es : List ℤ) where
+module _ (ring : Ring) (above : 1 < ring.modulus) (ds es : List ℤ) where
   -- a vector moved on by whole blocks, over the sums of degrees
-  pub IsVector-moved : (i : ℕ) (w : Vector) → i < length ds → IsVector p es w → IsVector p (degree_sums ds es) (record { degree = generator_degree ds i +ℤ w.degree; terms = moved (i * length es) w.terms })
+  pub IsVector-moved : (i : ℕ) (w : Vector) → i < length ds → IsVector ring es w → IsVector ring (degree_sums ds es) (record { degree = generator_degree ds i +ℤ w.degree; terms = moved (i * length es) w.terms })
   IsVector-moved i w inside h =
-      let positive : 0 < p = omega arith in
-      subst (λ ts. IsVector p (degree_sums ds es) (record { degree = generator_degree ds i +ℤ w.degree; terms = ts })) (kronecker_terms-unit_first p (length es) positive i w.terms h.canonical)
-      (IsVector-kronecker_terms p positive ds es (unit_vector (generator_degree ds i) i) w (IsVector-unit_vector p ds above i inside) h)
+      let positive : 0 < ring.modulus = omega arith in
+      subst (λ ts. IsVector ring (degree_sums ds es) (record { degree = generator_degree ds i +ℤ w.degree; terms = ts })) (kronecker_terms-unit_first ring (length es) positive i w.terms h.canonical)
+      (IsVector-kronecker_terms ring positive ds es (unit_vector (generator_degree ds i) i) w (IsVector-unit_vector ring ds above i inside) h)
 
   -- a vector scattered
-  pub IsVector-scattered : (k : ℕ) (v : Vector) → k < length es → IsVector p ds v → IsVector p (degree_sums ds es) (record { degree = v.degree +ℤ generator_degree es k; terms = scattered (length es) k v.terms })
+  pub IsVector-scattered : (k : ℕ) (v : Vector) → k < length es → IsVector ring ds v → IsVector ring (degree_sums ds es) (record { degree = v.degree +ℤ generator_degree es k; terms = scattered (length es) k v.terms })
   IsVector-scattered k v inside h =
-      let positive : 0 < p = omega arith in
-      subst (λ ts. IsVector p (degree_sums ds es) (record { degree = v.degree +ℤ generator_degree es k; terms = ts })) (kronecker_terms-unit p (length es) positive k (omega arith) v.terms h.canonical)
-      (IsVector-kronecker_terms p positive ds es v (unit_vector (generator_degree es k) k) h (IsVector-unit_vector p es above k inside))
+      let positive : 0 < ring.modulus = omega arith in
+      subst (λ ts. IsVector ring (degree_sums ds es) (record { degree = v.degree +ℤ generator_degree es k; terms = ts })) (kronecker_terms-unit ring (length es) positive k (omega arith) v.terms h.canonical)
+      (IsVector-kronecker_terms ring positive ds es v (unit_vector (generator_degree es k) k) h (IsVector-unit_vector ring es above k inside))

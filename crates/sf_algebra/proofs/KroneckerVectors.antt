@@ -5,15 +5,16 @@ use Rattle.std.specs.List.{AllByRecursion}
 use Rattle.std.proofs.lemmas.Int.{ints}
 use Rattle.std.proofs.lemmas.List.{length-map, get_or-map, get_or_append_left, get_or-append-add}
 use Rattle.sf_algebra.specs.MatrixOperations.{moved, kronecker_terms, degree_sums}
-use Rattle.sf_algebra.specs.Monomials.{Monomial, product, exponent_sum}
+use Rattle.sf_algebra.specs.Monomials.{Monomial, product, monomial_degree}
 use Rattle.sf_algebra.specs.Multiples.{place_product, term_product, combination_terms, combination}
+use Rattle.sf_algebra.specs.Rings.{Ring}
 use Rattle.sf_algebra.specs.Terms.{Term}
 use Rattle.sf_algebra.specs.Vectors.{Place, Vector, place_cmp, generator_degree, IsTermOfDegree, IsVector}
 use Rattle.sf_algebra.proofs.Combinations.{factor}
 use Rattle.sf_algebra.proofs.KroneckerTerms.{kronecker_term, moved_term, IsCanonical-kronecker_terms}
 use Rattle.sf_algebra.proofs.Lists.{AllByRecursion-append, AllByRecursion-weaken}
 use Rattle.sf_algebra.proofs.Normal.{EachPlace, EachPlace-normal}
-use Rattle.sf_algebra.proofs.Products.{exponent_sum-product}
+use Rattle.sf_algebra.proofs.Products.{monomial_degree-product}
 use Rattle.sf_algebra.proofs.Stacks.{AllByRecursion-map}
 
 -- what holds of the place of each product of a coefficient and a term of its list holds of each place of the combination
@@ -55,25 +56,25 @@ pair_below i j m n first second =
     let rows : suc i * n ≤ m * n = mul-le-mul_right n (let h : suc i ≤ m = omega arith in h) in
     omega (arith, suc-mul i n)
 
-module _ (p : ℕ) (positive : 0 < p) (ds es : List ℤ) where
-  pair : (v w : ℤ) (t u : Term Place) → IsTermOfDegree ds v t → IsTermOfDegree es w u → IsTermOfDegree (degree_sums ds es) (v +ℤ w) (kronecker_term p (length es) t u)
+module _ (ring : Ring) (positive : 0 < ring.modulus) (ds es : List ℤ) where
+  pair : (v w : ℤ) (t u : Term Place) → IsTermOfDegree ring.weights ds v t → IsTermOfDegree ring.weights es w u → IsTermOfDegree ring.weights (degree_sums ds es) (v +ℤ w) (kronecker_term ring.modulus (length es) t u)
   pair v w t u h k =
       let inside : t.at.position * length es + u.at.position < length ds * length es = pair_below t.at.position u.at.position (length ds) (length es) h.0 k.0 in (
         rw (length-degree_sums ds es) inside,
         degrees v w _ _ t.at.monomial u.at.monomial h.1 k.1
-            ∙ ap (λ d. d +ℤ pos (exponent_sum (product t.at.monomial u.at.monomial)))
+            ∙ ap (λ d. d +ℤ pos (monomial_degree ring.weights (product t.at.monomial u.at.monomial)))
             (sym (generator_degree-degree_sums ds es t.at.position u.at.position (t.at.position * length es + u.at.position) h.0 k.0 refl)),
       )
     where
-      degrees : (v w d e : ℤ) (a b : Monomial) → v ≡ d +ℤ pos (exponent_sum a) → w ≡ e +ℤ pos (exponent_sum b) → v +ℤ w ≡ (d +ℤ e) +ℤ pos (exponent_sum (product a b))
-      degrees v w d e a b h k = omega (arith, ints, exponent_sum-product a b)
+      degrees : (v w d e : ℤ) (a b : Monomial) → v ≡ d +ℤ pos (monomial_degree ring.weights a) → w ≡ e +ℤ pos (monomial_degree ring.weights b) → v +ℤ w ≡ (d +ℤ e) +ℤ pos (monomial_degree ring.weights (product a b))
+      degrees v w d e a b h k = omega (arith, ints, monomial_degree-product ring.weights a b)
 
-  pub IsVector-kronecker_terms : (v w : Vector) → IsVector p ds v → IsVector p es w
-      → IsVector p (degree_sums ds es) (record { degree = v.degree +ℤ w.degree; terms = kronecker_terms p (length es) v.terms w.terms })
+  pub IsVector-kronecker_terms : (v w : Vector) → IsVector ring ds v → IsVector ring es w
+      → IsVector ring (degree_sums ds es) (record { degree = v.degree +ℤ w.degree; terms = kronecker_terms ring (length es) v.terms w.terms })
   IsVector-kronecker_terms v w h k = record {
-    canonical = IsCanonical-kronecker_terms p (length es) positive v.terms w.terms;
+    canonical = IsCanonical-kronecker_terms ring (length es) positive v.terms w.terms;
     homogeneous =
-        EachPlace-combination (λ k. IsTermOfDegree (degree_sums ds es) (v.degree +ℤ w.degree) (record { at = k; coefficient = 0 })) place_cmp place_product p (λ k. k.monomial) (λ k. moved (k.position * length es) w.terms) v.terms
+        EachPlace-combination (λ k. IsTermOfDegree ring.weights (degree_sums ds es) (v.degree +ℤ w.degree) (record { at = k; coefficient = 0 })) (place_cmp ring.weights) place_product ring.modulus (λ k. k.monomial) (λ k. moved (k.position * length es) w.terms) v.terms
         (AllByRecursion-weaken _ _
         (λ t f. AllByRecursion-map _ (moved_term (t.at.position * length es)) w.terms
         (AllByRecursion-weaken _ _ (λ u g. pair v.degree w.degree t u f g) w.terms k.homogeneous))

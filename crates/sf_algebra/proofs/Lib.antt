@@ -10,6 +10,7 @@ pub mod Lists
 pub mod Descending
 pub mod MonomialEquality
 pub mod Equality
+pub mod Weights
 pub mod Orders
 pub mod Products
 pub mod Places

@@ -5,6 +5,7 @@ use Rattle.std.specs.Cmp.{Equal-is}
 use Rattle.std.proofs.lemmas.Bool.Decides.{Decides-eqb, Decides-and}
 use Rattle.std.proofs.lemmas.Cmp.{tied_itself}
 use Rattle.sf_algebra.specs.Monomials.{Monomial, monomial_cmp}
+use Rattle.sf_algebra.specs.Rings.{Weights}
 use Rattle.sf_algebra.proofs.Orders.{monomial_cmp_total, monomial_cmp-Equal}
 
 -- a test of the exponents, one after another
@@ -18,9 +19,9 @@ Decides-same_exponents a b =
       λ e. d.1 (ap (λ m. m.e1) e, (ap (λ m. m.e2) e, (ap (λ m. m.e3) e, (ap (λ m. m.e4) e, (ap (λ m. m.e5) e, ap (λ m. m.e6) e))))),
     )
 
-pub same_exponents-monomial_cmp : (a b : Monomial) → same_exponents a b ≡ is_eq (monomial_cmp a b)
-same_exponents-monomial_cmp a b =
+pub same_exponents-monomial_cmp : (weights : Weights) (a b : Monomial) → same_exponents a b ≡ is_eq (monomial_cmp weights a b)
+same_exponents-monomial_cmp weights a b =
     one_answer _ _ (Decides-same_exponents a b) (
-      λ h. monomial_cmp-Equal a b ((Equal-is (monomial_cmp a b)).0 h),
-      λ e. (Equal-is (monomial_cmp a b)).1 (ap (λ m. monomial_cmp a m) (sym e) ∙ tied_itself monomial_cmp_total a),
+      λ h. monomial_cmp-Equal weights a b ((Equal-is (monomial_cmp weights a b)).0 h),
+      λ e. (Equal-is (monomial_cmp weights a b)).1 (ap (λ m. monomial_cmp weights a m) (sym e) ∙ tied_itself (monomial_cmp_total weights) a),
     )

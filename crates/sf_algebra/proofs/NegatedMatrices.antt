@@ -31,21 +31,21 @@ entry-negative p j (t ∷ ts) =
 
 pub IsMatrix-negated : (m : Matrix) → IsMatrix m → IsMatrix (negated m)
 IsMatrix-negated m h =
-    AllByRecursion-map (IsVector m.modulus m.target) (λ (v : Vector). record { degree = v.degree; terms = negative m.modulus v.terms }) m.rows
-    (AllByRecursion-weaken _ _ (λ v k. IsVector-negative m.modulus m.target v.degree v.terms k) m.rows h)
+    AllByRecursion-map (IsVector m.ring m.target) (λ (v : Vector). record { degree = v.degree; terms = negative m.ring.modulus v.terms }) m.rows
+    (AllByRecursion-weaken _ _ (λ v k. IsVector-negative m.ring m.target v.degree v.terms k) m.rows h)
 
 pub row_degrees-negated : (m : Matrix) → row_degrees (negated m) ≡ row_degrees m
-row_degrees-negated m = degrees-with_terms (negative m.modulus) m.rows
+row_degrees-negated m = degrees-with_terms (negative m.ring.modulus) m.rows
 
-pub entry-negated : (m : Matrix) (i j : ℕ) → entry j (row_at (negated m).rows i) ≡ negative m.modulus (entry j (row_at m.rows i))
-entry-negated m i j = ap (entry j) (row_at-negated m i) ∙ entry-negative m.modulus j (row_at m.rows i)
+pub entry-negated : (m : Matrix) (i j : ℕ) → entry j (row_at (negated m).rows i) ≡ negative m.ring.modulus (entry j (row_at m.rows i))
+entry-negated m i j = ap (entry j) (row_at-negated m i) ∙ entry-negative m.ring.modulus j (row_at m.rows i)
 
 pub negated-negated : (m : Matrix) → IsMatrix m → negated (negated m) ≡ m
 negated-negated m h =
-    let rows = with_terms-with_terms (negative m.modulus) (negative m.modulus) m.rows
-    ∙ with_terms-same (λ ts. negative m.modulus (negative m.modulus ts)) m.rows
-    (AllByRecursion-weaken _ _ (λ v k. negative-negative place_cmp m.modulus v.terms k.canonical.residues) m.rows h) in
-    λ i. record { modulus = m.modulus; target = m.target; rows = rows i }
+    let rows = with_terms-with_terms (negative m.ring.modulus) (negative m.ring.modulus) m.rows
+    ∙ with_terms-same (λ ts. negative m.ring.modulus (negative m.ring.modulus ts)) m.rows
+    (AllByRecursion-weaken _ _ (λ v k. negative-negative (place_cmp m.ring.weights) m.ring.modulus v.terms k.canonical.residues) m.rows h) in
+    λ i. record { ring = m.ring; target = m.target; rows = rows i }
 
 pub transposed-negated : (m : Matrix) → IsMatrix m → transposed (negated m) ≡ negated (transposed m)
 transposed-negated m h =
@@ -57,5 +57,5 @@ transposed-negated m h =
     (λ i j.
     entry-transposed (negated m) k j i
     ∙ entry-negated m j i
-    ∙ ap (negative m.modulus) (sym (entry-transposed m h j i))
+    ∙ ap (negative m.ring.modulus) (sym (entry-transposed m h j i))
     ∙ sym (entry-negated (transposed m) i j))

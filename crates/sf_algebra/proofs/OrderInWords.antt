@@ -6,6 +6,7 @@ use Rattle.std.specs.declared.cmp.Ordering.TheVariants.{Greater}
 use Rattle.std.specs.Ordering.{nat_cmp, ordering_then, ordering_reverse}
 use Rattle.sf_algebra.specs.Monomials.{Monomial, VARIABLES, exponents, monomial_cmp}
 use Rattle.sf_algebra.specs.OrderInWords.{IsSmallerInLastDifference, IsGreater}
+use Rattle.sf_algebra.specs.Rings.{Weights}
 use Rattle.sf_algebra.proofs.Comparisons.{ordering_then-Greater, nat_cmp-Greater}
 use Rattle.sf_algebra.proofs.Orders.{ordering_cases, nat_cmp-Equal, monomial_cmp_total, monomial_cmp-Equal}
 
@@ -33,8 +34,8 @@ last_from a b k before below agree greater go_on =
       | inr on ↦ go_on (Agree-from a b k (sym (nat_cmp-Equal _ _ on.0)) agree) on.1
     ]
 
-monomial_cmp-words : (a b : Monomial) → monomial_cmp a b ≡ Greater → IsGreater a b
-monomial_cmp-words a b greater =
+monomial_cmp-words : (weights : Weights) (a b : Monomial) → monomial_cmp weights a b ≡ Greater → IsGreater weights a b
+monomial_cmp-words weights a b greater =
     elim (ordering_then-Greater _ _ greater) [
       | inl sums ↦ inl (nat_cmp-Greater _ _ sums)
       | inr on ↦ inr (
@@ -59,21 +60,21 @@ IsSmallerInLastDifference-asymm a b h k =
       ]
     ]
 
-IsGreater-asymm : (a b : Monomial) → IsGreater a b → IsGreater b a → ⊥
-IsGreater-asymm a b (inl h) (inl k) = omega arith
-IsGreater-asymm a b (inl h) (inr k) = let e = k.0 in omega arith
-IsGreater-asymm a b (inr h) (inl k) = let e = h.0 in omega arith
-IsGreater-asymm a b (inr h) (inr k) = IsSmallerInLastDifference-asymm a b h.1 k.1
+IsGreater-asymm : (weights : Weights) (a b : Monomial) → IsGreater weights a b → IsGreater weights b a → ⊥
+IsGreater-asymm weights a b (inl h) (inl k) = omega arith
+IsGreater-asymm weights a b (inl h) (inr k) = let e = k.0 in omega arith
+IsGreater-asymm weights a b (inr h) (inl k) = let e = h.0 in omega arith
+IsGreater-asymm weights a b (inr h) (inr k) = IsSmallerInLastDifference-asymm a b h.1 k.1
 
-IsGreater-irrefl : (a : Monomial) → IsGreater a a → ⊥
-IsGreater-irrefl a h = IsGreater-asymm a a h h
+IsGreater-irrefl : (weights : Weights) (a : Monomial) → IsGreater weights a a → ⊥
+IsGreater-irrefl weights a h = IsGreater-asymm weights a a h h
 
-words-monomial_cmp : (a b : Monomial) → IsGreater a b → monomial_cmp a b ≡ Greater
-words-monomial_cmp a b h =
-    ordering_cases (monomial_cmp a b)
-    (λ less. absurd (IsGreater-asymm a b h (monomial_cmp-words b a (monomial_cmp_total.antisymm b a ∙ ap ordering_reverse less))))
-    (λ equal. absurd (IsGreater-irrefl b (subst (λ m. IsGreater m b) (monomial_cmp-Equal a b equal) h)))
+words-monomial_cmp : (weights : Weights) (a b : Monomial) → IsGreater weights a b → monomial_cmp weights a b ≡ Greater
+words-monomial_cmp weights a b h =
+    ordering_cases (monomial_cmp weights a b)
+    (λ less. absurd (IsGreater-asymm weights a b h (monomial_cmp-words weights b a ((monomial_cmp_total weights).antisymm b a ∙ ap ordering_reverse less))))
+    (λ equal. absurd (IsGreater-irrefl weights b (subst (λ m. IsGreater weights m b) (monomial_cmp-Equal weights a b equal) h)))
     (λ greater. greater)
 
-pub monomial_cmp-Greater : (a b : Monomial) → (monomial_cmp a b ≡ Greater) ↔ IsGreater a b
-monomial_cmp-Greater a b = (monomial_cmp-words a b, words-monomial_cmp a b)
+pub monomial_cmp-Greater : (weights : Weights) (a b : Monomial) → (monomial_cmp weights a b ≡ Greater) ↔ IsGreater weights a b
+monomial_cmp-Greater weights a b = (monomial_cmp-words weights a b, words-monomial_cmp weights a b)

@@ -5,8 +5,9 @@ use Rattle.std.specs.declared.cmp.Ordering.TheVariants.{Less, Equal, Greater}
 use Rattle.std.specs.Ordering.{match_ordering, nat_cmp, ordering_then}
 use Rattle.std.proofs.lemmas.Bool.Decides.{nat_tests}
 use Rattle.std.specs.Cmp.{IsTotalOrder, then_total, on_total, back_total, nat_cmp_total}
-use Rattle.sf_algebra.specs.Monomials.{Monomial, monomial_cmp, exponent_sum}
+use Rattle.sf_algebra.specs.Monomials.{Monomial, monomial_cmp, monomial_degree}
 use Rattle.sf_algebra.specs.Orders.{IsLinearOrder}
+use Rattle.sf_algebra.specs.Rings.{Weights}
 use Rattle.sf_algebra.specs.Vectors.{Place, place_cmp}
 
 -- what follows from each of the three orderings holds
@@ -30,9 +31,9 @@ ordering_then-Equal Greater p e = cc
 pub nat_cmp-Equal : (a b : ℕ) → nat_cmp a b ≡ Equal → a ≡ b
 nat_cmp-Equal a b e = grind (arith, nat_tests)
 
-pub monomial_cmp_total : IsTotalOrder monomial_cmp
-monomial_cmp_total =
-    then_total (on_total exponent_sum nat_cmp_total)
+pub monomial_cmp_total : (weights : Weights) → IsTotalOrder (monomial_cmp weights)
+monomial_cmp_total weights =
+    then_total (on_total (monomial_degree weights) nat_cmp_total)
     (then_total (back_total (on_total (λ (a : Monomial). a.e6) nat_cmp_total))
     (then_total (back_total (on_total (λ (a : Monomial). a.e5) nat_cmp_total))
     (then_total (back_total (on_total (λ (a : Monomial). a.e4) nat_cmp_total))
@@ -40,8 +41,8 @@ monomial_cmp_total =
     (then_total (back_total (on_total (λ (a : Monomial). a.e2) nat_cmp_total))
     (back_total (on_total (λ (a : Monomial). a.e1) nat_cmp_total)))))))
 
-pub monomial_cmp-Equal : (a b : Monomial) → monomial_cmp a b ≡ Equal → a ≡ b
-monomial_cmp-Equal a b e =
+pub monomial_cmp-Equal : (weights : Weights) (a b : Monomial) → monomial_cmp weights a b ≡ Equal → a ≡ b
+monomial_cmp-Equal weights a b e =
     let f = ordering_then-Equal _ _ e in
     let g6 = ordering_then-Equal _ _ f.1 in
     let g5 = ordering_then-Equal _ _ g6.1 in
@@ -56,19 +57,19 @@ monomial_cmp-Equal a b e =
     let p1 = nat_cmp-Equal _ _ g2.1 in
     λ i. record { e1 = sym p1 i; e2 = sym p2 i; e3 = sym p3 i; e4 = sym p4 i; e5 = sym p5 i; e6 = sym p6 i }
 
-pub monomial_cmp_linear : IsLinearOrder monomial_cmp
-monomial_cmp_linear = record { total = monomial_cmp_total; apart = monomial_cmp-Equal }
+pub monomial_cmp_linear : (weights : Weights) → IsLinearOrder (monomial_cmp weights)
+monomial_cmp_linear weights = record { total = monomial_cmp_total weights; apart = monomial_cmp-Equal weights }
 
-pub place_cmp_total : IsTotalOrder place_cmp
-place_cmp_total =
-    then_total (back_total (on_total (λ (a : Place). a.position) nat_cmp_total)) (on_total (λ (a : Place). a.monomial) monomial_cmp_total)
+pub place_cmp_total : (weights : Weights) → IsTotalOrder (place_cmp weights)
+place_cmp_total weights =
+    then_total (back_total (on_total (λ (a : Place). a.position) nat_cmp_total)) (on_total (λ (a : Place). a.monomial) (monomial_cmp_total weights))
 
-pub place_cmp-Equal : (a b : Place) → place_cmp a b ≡ Equal → a ≡ b
-place_cmp-Equal a b e =
+pub place_cmp-Equal : (weights : Weights) (a b : Place) → place_cmp weights a b ≡ Equal → a ≡ b
+place_cmp-Equal weights a b e =
     let f = ordering_then-Equal _ _ e in
     let positions = nat_cmp-Equal _ _ f.0 in
-    let monomials = monomial_cmp-Equal _ _ f.1 in
+    let monomials = monomial_cmp-Equal weights _ _ f.1 in
     λ i. record { position = sym positions i; monomial = monomials i }
 
-pub place_cmp_linear : IsLinearOrder place_cmp
-place_cmp_linear = record { total = place_cmp_total; apart = place_cmp-Equal }
+pub place_cmp_linear : (weights : Weights) → IsLinearOrder (place_cmp weights)
+place_cmp_linear weights = record { total = place_cmp_total weights; apart = place_cmp-Equal weights }

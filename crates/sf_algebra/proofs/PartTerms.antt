@@ -10,7 +10,8 @@ use Rattle.std.proofs.lemmas.Bool.Decides.{nat_tests}
 use Rattle.std.proofs.lemmas.List.{get_or-take, get_or-drop, map-append}
 use Rattle.std.proofs.lemmas.List.Elements.{filter-append}
 use Rattle.sf_algebra.specs.MatrixOperations.{part_terms}
-use Rattle.sf_algebra.specs.Monomials.{monomial_cmp, exponent_sum}
+use Rattle.sf_algebra.specs.Monomials.{monomial_cmp, monomial_degree}
+use Rattle.sf_algebra.specs.Rings.{Ring, Weights}
 use Rattle.sf_algebra.specs.Terms.{Term, IsDescending, IsNonzeroResidue, IsCanonical}
 use Rattle.sf_algebra.specs.Vectors.{Place, Vector, place_cmp, entry, generator_degree, IsTermOfDegree, IsVector}
 use Rattle.sf_algebra.proofs.Columns.{AllByRecursion-always}
@@ -104,24 +105,24 @@ part_terms-whole n (t ∷ ts) h =
 nat_cmp-sub : (k m n : ℕ) → k ≤ m → k ≤ n → nat_cmp (m - k) (n - k) ≡ nat_cmp m n
 nat_cmp-sub k m n first second = grind (arith, nat_tests)
 
-pub IsDescending-part_terms : (from to : ℕ) (ts : List (Term Place)) → IsDescending place_cmp ts → IsDescending place_cmp (part_terms from to ts)
-IsDescending-part_terms from to [] h = tt
-IsDescending-part_terms from to (t ∷ ts) h =
-    let others = IsDescending-part_terms from to ts h.1 in
+pub IsDescending-part_terms : (weights : Weights) (from to : ℕ) (ts : List (Term Place)) → IsDescending (place_cmp weights) ts → IsDescending (place_cmp weights) (part_terms from to ts)
+IsDescending-part_terms weights from to [] h = tt
+IsDescending-part_terms weights from to (t ∷ ts) h =
+    let others = IsDescending-part_terms weights from to ts h.1 in
     elim (cases_between from to t.at.position) [
-      | inl inside ↦ subst (IsDescending place_cmp) (sym (part_terms-inside from to t ts inside.0 inside.1)) (
-        AllByRecursion-part_terms (λ u. place_cmp u.at t.at ≡ Less) (λ u. place_cmp u.at (moved_back from t).at ≡ Less) from to
-            (λ u reached within less. ap (λ o. ordering_then o (monomial_cmp u.at.monomial t.at.monomial)) (nat_cmp-sub from t.at.position u.at.position inside.0 reached) ∙ less)
+      | inl inside ↦ subst (IsDescending (place_cmp weights)) (sym (part_terms-inside from to t ts inside.0 inside.1)) (
+        AllByRecursion-part_terms (λ u. place_cmp weights u.at t.at ≡ Less) (λ u. place_cmp weights u.at (moved_back from t).at ≡ Less) from to
+            (λ u reached within less. ap (λ o. ordering_then o (monomial_cmp weights u.at.monomial t.at.monomial)) (nat_cmp-sub from t.at.position u.at.position inside.0 reached) ∙ less)
             ts h.0,
         others,
       )
-      | inr outside ↦ subst (IsDescending place_cmp) (sym (part_terms-outside from to t ts outside)) others
+      | inr outside ↦ subst (IsDescending (place_cmp weights)) (sym (part_terms-outside from to t ts outside)) others
     ]
 
-pub IsCanonical-part_terms : (p from to : ℕ) (ts : List (Term Place)) → IsCanonical place_cmp p ts → IsCanonical place_cmp p (part_terms from to ts)
-IsCanonical-part_terms p from to ts h = record {
-  descending = IsDescending-part_terms from to ts h.descending;
-  residues = AllByRecursion-part_terms (IsNonzeroResidue p) (IsNonzeroResidue p) from to (λ t reached within k. k) ts h.residues;
+pub IsCanonical-part_terms : (ring : Ring) (from to : ℕ) (ts : List (Term Place)) → IsCanonical (place_cmp ring.weights) ring.modulus ts → IsCanonical (place_cmp ring.weights) ring.modulus (part_terms from to ts)
+IsCanonical-part_terms ring from to ts h = record {
+  descending = IsDescending-part_terms ring.weights from to ts h.descending;
+  residues = AllByRecursion-part_terms (IsNonzeroResidue ring.modulus) (IsNonzeroResidue ring.modulus) from to (λ t reached within k. k) ts h.residues;
 }
 
 -- the degrees of the generators in the range
@@ -132,16 +133,16 @@ generator_degree-slice_range degrees from to i reached within =
     ∙ ap (generator_degree degrees) (let same : from + (i - from) ≡ i = omega arith in same)
 
 -- the terms in the range, over the generators in the range
-pub IsVector-part_terms : (p : ℕ) (degrees : List ℤ) (from to : ℕ) (v : Vector) → IsVector p degrees v
-    → IsVector p (slice_range degrees from to) (record { degree = v.degree; terms = part_terms from to v.terms })
-IsVector-part_terms p degrees from to v h = record {
-  canonical = IsCanonical-part_terms p from to v.terms h.canonical;
-  homogeneous = AllByRecursion-part_terms (IsTermOfDegree degrees v.degree) (IsTermOfDegree (slice_range degrees from to) v.degree) from to moves v.terms h.homogeneous;
+pub IsVector-part_terms : (ring : Ring) (degrees : List ℤ) (from to : ℕ) (v : Vector) → IsVector ring degrees v
+    → IsVector ring (slice_range degrees from to) (record { degree = v.degree; terms = part_terms from to v.terms })
+IsVector-part_terms ring degrees from to v h = record {
+  canonical = IsCanonical-part_terms ring from to v.terms h.canonical;
+  homogeneous = AllByRecursion-part_terms (IsTermOfDegree ring.weights degrees v.degree) (IsTermOfDegree ring.weights (slice_range degrees from to) v.degree) from to moves v.terms h.homogeneous;
 }
   where
-    moves : (t : Term Place) → from ≤ t.at.position → t.at.position < to → IsTermOfDegree degrees v.degree t → IsTermOfDegree (slice_range degrees from to) v.degree (moved_back from t)
+    moves : (t : Term Place) → from ≤ t.at.position → t.at.position < to → IsTermOfDegree ring.weights degrees v.degree t → IsTermOfDegree ring.weights (slice_range degrees from to) v.degree (moved_back from t)
     moves t reached within k =
         let inside : t.at.position < length degrees = k.0 in (
           rw (length-take, length-drop) (omega arith),
-          k.1 ∙ ap (λ d. d +ℤ pos (exponent_sum t.at.monomial)) (sym (generator_degree-slice_range degrees from to t.at.position reached within)),
+          k.1 ∙ ap (λ d. d +ℤ pos (monomial_degree ring.weights t.at.monomial)) (sym (generator_degree-slice_range degrees from to t.at.position reached within)),
         )

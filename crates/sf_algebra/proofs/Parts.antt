@@ -4,6 +4,7 @@ use Rattle.std.proofs.lemmas.Bool.{cases_lt}
 use Rattle.std.proofs.lemmas.List.{map-append}
 use Rattle.sf_algebra.specs.Matrices.{Matrix, row_degrees, IsMatrix}
 use Rattle.sf_algebra.specs.MatrixOperations.{row_at, part, part_terms, stacked, transposed}
+use Rattle.sf_algebra.specs.Rings.{Ring}
 use Rattle.sf_algebra.specs.Terms.{Term, IsCanonical}
 use Rattle.sf_algebra.specs.Vectors.{Place, Vector, place_cmp, entry, IsVector}
 use Rattle.sf_algebra.proofs.Lists.{AllByRecursion-weaken}
@@ -18,8 +19,8 @@ use Rattle.sf_algebra.proofs.Transposes.{IsMatrix-transposed, entry-outside, ent
 module _ (r0 r1 c0 c1 : ℕ) (m : Matrix) where
   pub IsMatrix-part : IsMatrix m → IsMatrix (part r0 r1 c0 c1 m)
   IsMatrix-part h =
-      AllByRecursion-map (IsVector m.modulus (slice_range m.target c0 c1)) (λ (v : Vector). record { degree = v.degree; terms = part_terms c0 c1 v.terms }) (slice_range m.rows r0 r1)
-      (AllByRecursion-weaken _ _ (IsVector-part_terms m.modulus m.target c0 c1) (slice_range m.rows r0 r1) (AllByRecursion-slice_range _ m.rows r0 r1 h))
+      AllByRecursion-map (IsVector m.ring (slice_range m.target c0 c1)) (λ (v : Vector). record { degree = v.degree; terms = part_terms c0 c1 v.terms }) (slice_range m.rows r0 r1)
+      (AllByRecursion-weaken _ _ (IsVector-part_terms m.ring m.target c0 c1) (slice_range m.rows r0 r1) (AllByRecursion-slice_range _ m.rows r0 r1 h))
 
   pub row_degrees-part : row_degrees (part r0 r1 c0 c1 m) ≡ slice_range (row_degrees m) r0 r1
   row_degrees-part = degrees-with_terms (part_terms c0 c1) (slice_range m.rows r0 r1) ∙ sym (slice_range-map (λ (v : Vector). v.degree) m.rows r0 r1)
@@ -51,12 +52,12 @@ part-whole m h =
     let n = length m.target in
     let rows = ap (with_terms (part_terms 0 n)) (slice_range-whole m.rows (length m.rows) (omega arith))
     ∙ with_terms-same (part_terms 0 n) m.rows (AllByRecursion-weaken _ _ (λ v k. part_terms-whole n v.terms (AllByRecursion-weaken _ _ (λ t e. e.0) v.terms k.homogeneous)) m.rows h) in
-    λ i. record { modulus = m.modulus; target = slice_range-whole m.target n (omega arith) i; rows = rows i }
+    λ i. record { ring = m.ring; target = slice_range-whole m.target n (omega arith) i; rows = rows i }
 
 -- the terms in a range of a range
-pub part_terms-part_terms : (p from to a b : ℕ) (ts : List (Term Place)) → from + b ≤ to → IsCanonical place_cmp p ts → part_terms a b (part_terms from to ts) ≡ part_terms (from + a) (from + b) ts
-part_terms-part_terms p from to a b ts inside h =
-    same_from_entries _ _ (IsCanonical-part_terms p a b _ (IsCanonical-part_terms p from to ts h)).descending (IsCanonical-part_terms p (from + a) (from + b) ts h).descending
+pub part_terms-part_terms : (ring : Ring) (from to a b : ℕ) (ts : List (Term Place)) → from + b ≤ to → IsCanonical (place_cmp ring.weights) ring.modulus ts → part_terms a b (part_terms from to ts) ≡ part_terms (from + a) (from + b) ts
+part_terms-part_terms ring from to a b ts inside h =
+    same_from_entries ring.weights _ _ (IsCanonical-part_terms ring a b _ (IsCanonical-part_terms ring from to ts h)).descending (IsCanonical-part_terms ring (from + a) (from + b) ts h).descending
     (λ j. elim (cases_lt (a + j) b) [
       | inl within ↦
           entry-part_terms a b j (part_terms from to ts) within
@@ -76,23 +77,23 @@ part-part r0 r1 c0 c1 s0 s1 d0 d1 m h row column =
     ∙ ap (λ vs. with_terms (part_terms d0 d1) (with_terms (part_terms c0 c1) vs)) (slice_range-slice_range m.rows r0 r1 s0 s1 row)
     ∙ with_terms-with_terms (part_terms d0 d1) (part_terms c0 c1) few
     ∙ with_terms-each (λ ts. part_terms d0 d1 (part_terms c0 c1 ts)) (part_terms (c0 + d0) (c0 + d1)) few
-    (AllByRecursion-weaken _ _ (λ v k. part_terms-part_terms m.modulus c0 c1 d0 d1 v.terms column k.canonical) few (AllByRecursion-slice_range _ m.rows (r0 + s0) (r0 + s1) h)) in
-    λ i. record { modulus = m.modulus; target = slice_range-slice_range m.target c0 c1 d0 d1 column i; rows = rows i }
+    (AllByRecursion-weaken _ _ (λ v k. part_terms-part_terms m.ring c0 c1 d0 d1 v.terms column k.canonical) few (AllByRecursion-slice_range _ m.rows (r0 + s0) (r0 + s1) h)) in
+    λ i. record { ring = m.ring; target = slice_range-slice_range m.target c0 c1 d0 d1 column i; rows = rows i }
 
 -- the first matrix of a stack, and the second
 pub part-stacked_first : (a b : Matrix) → IsMatrix a → part 0 (length a.rows) 0 (length a.target) (stacked a b) ≡ a
 part-stacked_first a b h =
     (λ i. record {
-      modulus = a.modulus;
+      ring = a.ring;
       target = slice_range a.target 0 (length a.target);
       rows = with_terms (part_terms 0 (length a.target)) ((slice_range-first a.rows b.rows (length a.rows) refl ∙ sym (slice_range-whole a.rows (length a.rows) (omega arith))) i);
     })
     ∙ part-whole a h
 
-pub part-stacked_second : (a b : Matrix) → a.modulus ≡ b.modulus → a.target ≡ b.target → IsMatrix b → part (length a.rows) (length a.rows + length b.rows) 0 (length b.target) (stacked a b) ≡ b
+pub part-stacked_second : (a b : Matrix) → a.ring ≡ b.ring → a.target ≡ b.target → IsMatrix b → part (length a.rows) (length a.rows + length b.rows) 0 (length b.target) (stacked a b) ≡ b
 part-stacked_second a b moduli targets h =
     (λ i. record {
-      modulus = moduli i;
+      ring = moduli i;
       target = slice_range (targets i) 0 (length b.target);
       rows = with_terms (part_terms 0 (length b.target)) ((slice_range-second a.rows b.rows (length a.rows) (length a.rows + length b.rows) refl (omega arith) ∙ sym (slice_range-whole b.rows (length b.rows) (omega arith))) i);
     })
@@ -103,7 +104,7 @@ pub stacked-parts : (r0 r1 r2 c0 c1 : ℕ) (m : Matrix) → r0 ≤ r1 → r1 ≤
 stacked-parts r0 r1 r2 c0 c1 m first second =
     let rows = sym (map-append (λ (v : Vector). record { degree = v.degree; terms = part_terms c0 c1 v.terms }) (slice_range m.rows r0 r1) (slice_range m.rows r1 r2))
     ∙ ap (with_terms (part_terms c0 c1)) (slice_range-append m.rows r0 r1 r2 first second) in
-    λ i. record { modulus = m.modulus; target = slice_range m.target c0 c1; rows = rows i }
+    λ i. record { ring = m.ring; target = slice_range m.target c0 c1; rows = rows i }
 
 -- rows in all columns
 pub rows-part : (r0 r1 : ℕ) (m : Matrix) → IsMatrix m → (part r0 r1 0 (length m.target) m).rows ≡ slice_range m.rows r0 r1

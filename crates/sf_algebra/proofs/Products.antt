@@ -3,7 +3,8 @@ use Rattle.std.proofs.Common.{◌≡◌, ℕ, ◌+◌, arith, zero-add}
 use Rattle.std.proofs.Math.Nat.{add_assoc, add_comm}
 use Rattle.std.proofs.lemmas.Bool.Decides.{nat_tests}
 use Rattle.std.specs.Ordering.{nat_cmp}
-use Rattle.sf_algebra.specs.Monomials.{Monomial, one, product, exponent_sum, monomial_cmp}
+use Rattle.sf_algebra.specs.Monomials.{Monomial, one, product, monomial_degree, monomial_cmp}
+use Rattle.sf_algebra.specs.Rings.{Weights}
 
 pub product-comm : (a b : Monomial) → product a b ≡ product b a
 product-comm a b = λ i. record {
@@ -21,12 +22,12 @@ product-assoc a b c = simp add_assoc
 pub product-one_first : (a : Monomial) → product one a ≡ a
 product-one_first a = simp zero-add
 
-pub exponent_sum-product : (a b : Monomial) → exponent_sum (product a b) ≡ exponent_sum a + exponent_sum b
-exponent_sum-product a b = omega arith
+pub monomial_degree-product : (weights : Weights) (a b : Monomial) → monomial_degree weights (product a b) ≡ monomial_degree weights a + monomial_degree weights b
+monomial_degree-product weights a b = omega arith
 
 -- numbers compare as their sums with a third one do
 pub nat_cmp-add : (k m n : ℕ) → nat_cmp (k + m) (k + n) ≡ nat_cmp m n
 nat_cmp-add k m n = grind (arith, nat_tests)
 
-pub monomial_cmp-product : (c a b : Monomial) → monomial_cmp (product c a) (product c b) ≡ monomial_cmp a b
-monomial_cmp-product c a b = rw (exponent_sum-product c a, exponent_sum-product c b) (simp nat_cmp-add)
+pub monomial_cmp-product : (weights : Weights) (c a b : Monomial) → monomial_cmp weights (product c a) (product c b) ≡ monomial_cmp weights a b
+monomial_cmp-product weights c a b = rw (monomial_degree-product weights c a, monomial_degree-product weights c b) (simp nat_cmp-add)

@@ -5,6 +5,7 @@ use Rattle.std.proofs.lemmas.List.{map-append}
 use Rattle.sf_algebra.specs.Matrices.{Matrix, row_degrees, IsMatrix}
 use Rattle.sf_algebra.specs.MatrixOperations.{negated, stacked}
 use Rattle.sf_algebra.specs.Multiples.{negative}
+use Rattle.sf_algebra.specs.Rings.{Ring}
 use Rattle.sf_algebra.specs.Terms.{Term}
 use Rattle.sf_algebra.specs.Vectors.{Place, Vector, IsVector}
 use Rattle.sf_algebra.proofs.Lists.{AllByRecursion-append}
@@ -34,23 +35,23 @@ pub with_terms-same : (f : List (Term Place) → List (Term Place)) (vs : List V
 with_terms-same f [] h = refl
 with_terms-same f (v ∷ vs) h = λ i. record { degree = v.degree; terms = h.0 i } ∷ with_terms-same f vs h.1 i
 
-pub IsMatrix-stacked : (a b : Matrix) → a.modulus ≡ b.modulus → a.target ≡ b.target → IsMatrix a → IsMatrix b → IsMatrix (stacked a b)
+pub IsMatrix-stacked : (a b : Matrix) → a.ring ≡ b.ring → a.target ≡ b.target → IsMatrix a → IsMatrix b → IsMatrix (stacked a b)
 IsMatrix-stacked a b moduli targets h k =
-    AllByRecursion-append (IsVector a.modulus a.target) a.rows b.rows h
-    (subst (λ p. AllByRecursion (IsVector p a.target) b.rows) (sym moduli) (subst (λ ds. AllByRecursion (IsVector b.modulus ds) b.rows) (sym targets) k))
+    AllByRecursion-append (IsVector a.ring a.target) a.rows b.rows h
+    (subst (λ ring. AllByRecursion (IsVector ring a.target) b.rows) (sym moduli) (subst (λ ds. AllByRecursion (IsVector b.ring ds) b.rows) (sym targets) k))
 
 pub row_degrees-stacked : (a b : Matrix) → row_degrees (stacked a b) ≡ row_degrees a ++ row_degrees b
 row_degrees-stacked a b = map-append (λ (v : Vector). v.degree) a.rows b.rows
 
 pub stacked-assoc : (a b c : Matrix) → stacked (stacked a b) c ≡ stacked a (stacked b c)
-stacked-assoc a b c = λ i. record { modulus = a.modulus; target = a.target; rows = append_assoc a.rows b.rows c.rows i }
+stacked-assoc a b c = λ i. record { ring = a.ring; target = a.target; rows = append_assoc a.rows b.rows c.rows i }
 
 -- no rows below
 pub stacked-nil : (a b : Matrix) → b.rows ≡ [] → stacked a b ≡ a
-stacked-nil a b none = λ i. record { modulus = a.modulus; target = a.target; rows = (ap (λ vs. a.rows ++ vs) none ∙ append-nil a.rows) i }
+stacked-nil a b none = λ i. record { ring = a.ring; target = a.target; rows = (ap (λ vs. a.rows ++ vs) none ∙ append-nil a.rows) i }
 
-pub negated-stacked : (a b : Matrix) → a.modulus ≡ b.modulus → negated (stacked a b) ≡ stacked (negated a) (negated b)
+pub negated-stacked : (a b : Matrix) → a.ring ≡ b.ring → negated (stacked a b) ≡ stacked (negated a) (negated b)
 negated-stacked a b moduli =
-    let rows = map-append (λ (v : Vector). record { degree = v.degree; terms = negative a.modulus v.terms }) a.rows b.rows
-    ∙ ap (λ p. with_terms (negative a.modulus) a.rows ++ with_terms (negative p) b.rows) moduli in
-    λ i. record { modulus = a.modulus; target = a.target; rows = rows i }
+    let rows = map-append (λ (v : Vector). record { degree = v.degree; terms = negative a.ring.modulus v.terms }) a.rows b.rows
+    ∙ ap (λ (q : Ring). with_terms (negative a.ring.modulus) a.rows ++ with_terms (negative q.modulus) b.rows) moduli in
+    λ i. record { ring = a.ring; target = a.target; rows = rows i }

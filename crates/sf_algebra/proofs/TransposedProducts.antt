@@ -5,6 +5,7 @@ use Rattle.std.proofs.lemmas.List.{length-map}
 use Rattle.sf_algebra.specs.Matrices.{Matrix, IsMatrix}
 use Rattle.sf_algebra.specs.MatrixProductLaws.{IsComposable}
 use Rattle.sf_algebra.specs.MatrixOperations.{row_at, unit_rows, identity, matrix_product, transposed}
+use Rattle.sf_algebra.specs.Rings.{Ring}
 use Rattle.sf_algebra.specs.Vectors.{entry}
 use Rattle.sf_algebra.proofs.Entries.{entry-here, entry-elsewhere}
 use Rattle.sf_algebra.proofs.EntryTotals.{inner_product, inner_product-comm, entry-row_combination}
@@ -44,17 +45,17 @@ entry-unit_rows_exchange ds es i j size =
       | inr other ↦ entry-unit_rows_other ds i j other ∙ sym (entry-unit_rows_other es j i (λ e. other (sym e)))
     ]
 
-pub transposed-identity : (p : ℕ) (ds : List ℤ) → 1 < p → transposed (identity p ds) ≡ identity p (map neg_ℤ ds)
-transposed-identity p ds above =
-    let h = IsMatrix-identity p above ds in
-    same_matrices (transposed (identity p ds)) (identity p (map neg_ℤ ds)) (IsMatrix-transposed (identity p ds) h) (IsMatrix-identity p above (map neg_ℤ ds)) refl
-    (ap (map neg_ℤ) (row_degrees-identity p ds))
-    (row_degrees-transposed (identity p ds) ∙ sym (row_degrees-identity p (map neg_ℤ ds)))
-    (λ i j. entry-transposed (identity p ds) h j i ∙ entry-unit_rows_exchange ds (map neg_ℤ ds) j i (sym (length-map ds neg_ℤ)))
+pub transposed-identity : (ring : Ring) (ds : List ℤ) → 1 < ring.modulus → transposed (identity ring ds) ≡ identity ring (map neg_ℤ ds)
+transposed-identity ring ds above =
+    let h = IsMatrix-identity ring above ds in
+    same_matrices (transposed (identity ring ds)) (identity ring (map neg_ℤ ds)) (IsMatrix-transposed (identity ring ds) h) (IsMatrix-identity ring above (map neg_ℤ ds)) refl
+    (ap (map neg_ℤ) (row_degrees-identity ring ds))
+    (row_degrees-transposed (identity ring ds) ∙ sym (row_degrees-identity ring (map neg_ℤ ds)))
+    (λ i j. entry-transposed (identity ring ds) h j i ∙ entry-unit_rows_exchange ds (map neg_ℤ ds) j i (sym (length-map ds neg_ℤ)))
 
 pub IsComposable-transposed : (a b : Matrix) → IsComposable a b → IsComposable (transposed b) (transposed a)
 IsComposable-transposed a b c = record {
-  positive = subst (λ p. 0 < p) c.moduli c.positive;
+  positive = subst (λ (q : Ring). 0 < q.modulus) c.moduli c.positive;
   moduli = sym c.moduli;
   degrees = row_degrees-transposed a ∙ ap (map neg_ℤ) (sym c.degrees);
 }
@@ -73,9 +74,9 @@ transposed-matrix_product a b c h k =
     (row_degrees-transposed (matrix_product a b) ∙ sym (row_degrees-matrix_product (transposed b) (transposed a) ∙ row_degrees-transposed b))
     (λ i j.
     entry-transposed (matrix_product a b) ab j i
-    ∙ ap (entry i) (row_at-matrix_product a.modulus c.positive a b j refl)
-    ∙ entry-row_combination a.modulus c.positive i b.rows (row_at a.rows j) (row_at (transposed b).rows i) (λ l. entry-transposed b k l i)
-    ∙ inner_product-comm a.modulus c.positive (row_at a.rows j) (row_at (transposed b).rows i)
-    ∙ ap (λ p. inner_product p (row_at (transposed b).rows i) (row_at a.rows j)) c.moduli
-    ∙ sym (entry-row_combination b.modulus d.positive j (transposed a).rows (row_at (transposed b).rows i) (row_at a.rows j) (λ l. sym (entry-transposed a h j l)))
-    ∙ ap (entry j) (sym (row_at-matrix_product b.modulus d.positive (transposed b) (transposed a) i refl)))
+    ∙ ap (entry i) (row_at-matrix_product a.ring c.positive a b j refl)
+    ∙ entry-row_combination a.ring c.positive i b.rows (row_at a.rows j) (row_at (transposed b).rows i) (λ l. entry-transposed b k l i)
+    ∙ inner_product-comm a.ring c.positive (row_at a.rows j) (row_at (transposed b).rows i)
+    ∙ ap (λ ring. inner_product ring (row_at (transposed b).rows i) (row_at a.rows j)) c.moduli
+    ∙ sym (entry-row_combination b.ring d.positive j (transposed a).rows (row_at (transposed b).rows i) (row_at a.rows j) (λ l. sym (entry-transposed a h j l)))
+    ∙ ap (entry j) (sym (row_at-matrix_product b.ring d.positive (transposed b) (transposed a) i refl)))

@@ -7,6 +7,7 @@ use Rattle.std.proofs.Math.IntN.{neg_ℤ-neg_ℤ}
 use Rattle.std.proofs.Math.ListN.{length-append}
 use Rattle.sf_algebra.specs.Matrices.{Matrix, row_degrees, IsMatrix}
 use Rattle.sf_algebra.specs.MatrixOperations.{row_at, column_terms, column_rows, transposed}
+use Rattle.sf_algebra.specs.Rings.{Ring}
 use Rattle.sf_algebra.specs.Terms.{Term}
 use Rattle.sf_algebra.specs.Vectors.{Place, Vector, entry, IsVector}
 use Rattle.sf_algebra.proofs.Columns.{entry-column_terms, IsDescending-column_terms, IsVector-column}
@@ -40,18 +41,18 @@ pub entry-outside : (n : ℕ) (ts : List (Term Place)) (j : ℕ) → IsWithin n 
 entry-outside n [] j h le = refl
 entry-outside n (t ∷ ts) j h le = entry-elsewhere j t ts (λ e. omega (arith, h.0)) ∙ entry-outside n ts j h.1 le
 
-module _ (p : ℕ) (rows : List Vector) where
-  IsVector-columns : (front ds : List ℤ) (j : ℕ) → j ≡ length front → AllByRecursion (IsVector p (front ++ ds)) rows
-      → AllByRecursion (IsVector p (map neg_ℤ (map (λ (v : Vector). v.degree) rows))) (column_rows rows j ds)
+module _ (ring : Ring) (rows : List Vector) where
+  IsVector-columns : (front ds : List ℤ) (j : ℕ) → j ≡ length front → AllByRecursion (IsVector ring (front ++ ds)) rows
+      → AllByRecursion (IsVector ring (map neg_ℤ (map (λ (v : Vector). v.degree) rows))) (column_rows rows j ds)
   IsVector-columns front [] j e h = tt
   IsVector-columns front (d ∷ ds) j e h =
       let size : suc j ≡ length (front ++ d ∷ []) = rw length-append (omega arith) in (
-        IsVector-column j p (front ++ d ∷ ds) d rows (get_or_at front d ds (pos 0) j (sym e)) h,
-        IsVector-columns (front ++ d ∷ []) ds (suc j) size (subst (λ all. AllByRecursion (IsVector p all) rows) (sym (append_assoc front (d ∷ []) ds)) h),
+        IsVector-column j ring (front ++ d ∷ ds) d rows (get_or_at front d ds (pos 0) j (sym e)) h,
+        IsVector-columns (front ++ d ∷ []) ds (suc j) size (subst (λ all. AllByRecursion (IsVector ring all) rows) (sym (append_assoc front (d ∷ []) ds)) h),
       )
 
 pub IsMatrix-transposed : (m : Matrix) → IsMatrix m → IsMatrix (transposed m)
-IsMatrix-transposed m h = IsVector-columns m.modulus m.rows [] m.target 0 refl h
+IsMatrix-transposed m h = IsVector-columns m.ring m.rows [] m.target 0 refl h
 
 pub row_degrees-transposed : (m : Matrix) → row_degrees (transposed m) ≡ map neg_ℤ m.target
 row_degrees-transposed m = degrees-column_rows m.rows 0 m.target
@@ -63,7 +64,7 @@ entry-transposed m h i j =
       | inl inside ↦ ap (entry i) (row_at-column_rows m.rows 0 m.target j j inside (omega arith)) ∙ entry-column_terms j 0 m.rows i i (omega arith)
       | inr past ↦
           let none : row_at (transposed m).rows j ≡ [] = row_at-past (column_rows m.rows 0 m.target) j (rw length-column_rows past) in
-          ap (entry i) none ∙ sym (entry-outside (length m.target) (row_at m.rows i) j (IsWithin-matrix_row m.modulus m.target m.rows h i) past)
+          ap (entry i) none ∙ sym (entry-outside (length m.target) (row_at m.rows i) j (IsWithin-matrix_row m.ring m.target m.rows h i) past)
     ]
 
 pub map-neg-neg : (ds : List ℤ) → map neg_ℤ (map neg_ℤ ds) ≡ ds
@@ -82,5 +83,5 @@ transposed-transposed m h =
 pub row_at-entries : (m : Matrix) → IsMatrix m → (i : ℕ) → row_at m.rows i ≡ column_terms i 0 (transposed m).rows
 row_at-entries m h i =
     let rows = AllByRecursion-weaken _ _ (λ v k. k.canonical.descending) (transposed m).rows (IsMatrix-transposed m h) in
-    same_from_entries _ _ (IsCanonical-matrix_row m.modulus m.target m.rows h i).descending (IsDescending-column_terms i 0 (transposed m).rows rows)
+    same_from_entries m.ring.weights _ _ (IsCanonical-matrix_row m.ring m.target m.rows h i).descending (IsDescending-column_terms i m.ring.weights 0 (transposed m).rows rows)
     (λ j. sym (entry-column_terms i 0 (transposed m).rows j j (omega arith) ∙ entry-transposed m h i j))

@@ -5,6 +5,7 @@ use Rattle.sf_algebra.specs.MatrixOperations.{row_at, row_combination, unit_rows
 use Rattle.sf_algebra.specs.Monomials.{one}
 use Rattle.sf_algebra.specs.Multiples.{place_product, term_product}
 use Rattle.sf_algebra.specs.Residues.{sum_mod}
+use Rattle.sf_algebra.specs.Rings.{Ring}
 use Rattle.sf_algebra.specs.Sums.{total}
 use Rattle.sf_algebra.specs.Terms.{Term, IsCanonical}
 use Rattle.sf_algebra.specs.Vectors.{Place, Vector, place_cmp}
@@ -29,8 +30,8 @@ row_at-unit_rows (d ∷ ds) from zero h = ap (λ n. unit_term n ∷ []) (omega a
 row_at-unit_rows (d ∷ ds) from (suc i) h = row_at-unit_rows ds (suc from) i (omega arith) ∙ ap (λ n. unit_term n ∷ []) (omega arith)
 
 -- a unit vector of coefficients picks a row
-pub row_combination-unit : (p : ℕ) → 0 < p → (rows : List Vector) (i : ℕ) → IsCanonical place_cmp p (row_at rows i) → row_combination p rows (unit_term i ∷ []) ≡ row_at rows i
-row_combination-unit p positive rows i h = row_combination-one p positive rows (unit_term i) ∙ multiple-one place_keys p positive (row_at rows i) h
+pub row_combination-unit : (ring : Ring) → 0 < ring.modulus → (rows : List Vector) (i : ℕ) → IsCanonical (place_cmp ring.weights) ring.modulus (row_at rows i) → row_combination ring rows (unit_term i ∷ []) ≡ row_at rows i
+row_combination-unit ring positive rows i h = row_combination-one ring positive rows (unit_term i) ∙ multiple-one (place_keys ring.weights) ring.modulus positive (row_at rows i) h
 
 -- a coefficient times the unit vector at its position
 pub term_product-unit_term : (p : ℕ) (t : Term Place) → term_product place_product p (factor (λ k. k.monomial) t) (unit_term (0 + t.at.position)) ≡ record { at = t.at; coefficient = t.coefficient % p }
@@ -40,20 +41,20 @@ term_product-unit_term p t = λ i. record {
 }
 
 -- unit rows give the coefficients back
-pub row_combination-unit_rows : (p : ℕ) → 0 < p → (degrees : List ℤ) (c : List (Term Place)) → IsCanonical place_cmp p c → AllByRecursion (λ t. t.at.position < length degrees) c
-    → row_combination p (unit_rows 0 degrees) c ≡ c
-row_combination-unit_rows p positive degrees c canonical within =
-    combination-same place_keys p positive (λ k. k.monomial) (λ k. row_at (unit_rows 0 degrees) k.position) c c canonical
-    (λ g additive. total-each p _ _ c (AllByRecursion-weaken _ _ (λ t h. gives_back g additive t h) c within))
+pub row_combination-unit_rows : (ring : Ring) → 0 < ring.modulus → (degrees : List ℤ) (c : List (Term Place)) → IsCanonical (place_cmp ring.weights) ring.modulus c → AllByRecursion (λ t. t.at.position < length degrees) c
+    → row_combination ring (unit_rows 0 degrees) c ≡ c
+row_combination-unit_rows ring positive degrees c canonical within =
+    combination-same (place_keys ring.weights) ring.modulus positive (λ k. k.monomial) (λ k. row_at (unit_rows 0 degrees) k.position) c c canonical
+    (λ g additive. total-each ring.modulus _ _ c (AllByRecursion-weaken _ _ (λ t h. gives_back g additive t h) c within))
   where
-    gives_back : (g : Term Place → ℕ) → IsAdditive p g → (t : Term Place) → t.at.position < length degrees
-        → share place_product p (λ k. k.monomial) (λ k. row_at (unit_rows 0 degrees) k.position) g t % p ≡ g t % p
+    gives_back : (g : Term Place → ℕ) → IsAdditive ring.modulus g → (t : Term Place) → t.at.position < length degrees
+        → share place_product ring.modulus (λ k. k.monomial) (λ k. row_at (unit_rows 0 degrees) k.position) g t % ring.modulus ≡ g t % ring.modulus
     gives_back g additive t h =
-        let part = λ (u : Term Place). g (term_product place_product p (factor (λ k. k.monomial) t) u) in
-        ap (λ us. total p part us % p) (row_at-unit_rows degrees 0 t.at.position h)
-        ∙ total-reduced p part _
-        ∙ total-cons p part _ []
-        ∙ ap (sum_mod p _) (total-nil p part)
-        ∙ sum_mod-zero p _
-        ∙ ap (λ u. g u % p) (term_product-unit_term p t)
-        ∙ additive-reduced p g additive t.at t.coefficient
+        let part = λ (u : Term Place). g (term_product place_product ring.modulus (factor (λ k. k.monomial) t) u) in
+        ap (λ us. total ring.modulus part us % ring.modulus) (row_at-unit_rows degrees 0 t.at.position h)
+        ∙ total-reduced ring.modulus part _
+        ∙ total-cons ring.modulus part _ []
+        ∙ ap (sum_mod ring.modulus _) (total-nil ring.modulus part)
+        ∙ sum_mod-zero ring.modulus _
+        ∙ ap (λ u. g u % ring.modulus) (term_product-unit_term ring.modulus t)
+        ∙ additive-reduced ring.modulus g additive t.at t.coefficient

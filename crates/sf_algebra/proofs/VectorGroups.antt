@@ -6,6 +6,7 @@ use Rattle.sf_algebra.specs.Matrices.{Matrix, IsMatrix, row_degrees}
 use Rattle.sf_algebra.specs.MatrixOperations.{row_combination}
 use Rattle.sf_algebra.specs.Monomials.{Monomial}
 use Rattle.sf_algebra.specs.Multiples.{multiple, negative}
+use Rattle.sf_algebra.specs.Rings.{Ring}
 use Rattle.sf_algebra.specs.Sums.{add}
 use Rattle.sf_algebra.specs.Terms.{Term, IsCanonical}
 use Rattle.sf_algebra.specs.Vectors.{Place, Vector, place_cmp, IsVector}
@@ -15,6 +16,7 @@ use Rattle.sf_algebra.proofs.MultipleLaws.{multiple-add}
 use Rattle.sf_algebra.proofs.Multiples.{IsCanonical-multiple}
 use Rattle.sf_algebra.proofs.Negatives.{IsCanonical-negative, add-negative}
 use Rattle.sf_algebra.proofs.Normal.{IsCanonical-add}
+use Rattle.sf_algebra.proofs.Orders.{place_cmp_linear}
 use Rattle.sf_algebra.proofs.Rows.{IsCanonical-row_combination, row_combination-add, row_combination-multiple}
 use Rattle.sf_algebra.proofs.Subgroups.{Whole-sub, ImageOf-sub}
 use Rattle.sf_algebra.proofs.Sums.{add_comm, add_assoc, add-nil}
@@ -36,57 +38,57 @@ canonical_lists {K} keys p positive = record {
 }
 
 -- all vectors, of no degree in particular
-abbrev pub vectors : (p : ℕ) → 0 < p → Group (Term Monomial)
-vectors p positive = canonical_lists place_keys p positive
+abbrev pub vectors : (ring : Ring) → 0 < ring.modulus → Group (Term Monomial)
+vectors ring positive = canonical_lists (place_keys ring.weights) ring.modulus positive
 
-module _ (p : ℕ) (positive : 0 < p) (rows : List Vector) where
+module _ (ring : Ring) (positive : 0 < ring.modulus) (rows : List Vector) where
   -- the combination of the rows
-  abbrev pub combined_rows : (vectors p positive).V → (vectors p positive).V
-  combined_rows c = (row_combination p rows c.0, IsCanonical-row_combination p positive rows c.0)
+  abbrev pub combined_rows : (vectors ring positive).V → (vectors ring positive).V
+  combined_rows c = (row_combination ring rows c.0, IsCanonical-row_combination ring positive rows c.0)
 
-  pub combined_rows-map : IsMap (vectors p positive) (vectors p positive) combined_rows
+  pub combined_rows-map : IsMap (vectors ring positive) (vectors ring positive) combined_rows
   combined_rows-map = record {
-    to_plus = λ c d. same_canonical place_cmp p _ _ (row_combination-add p positive rows c.0 d.0);
-    to_act = λ s c. same_canonical place_cmp p _ _ (row_combination-multiple p positive rows s c.0);
+    to_plus = λ c d. same_canonical (place_cmp ring.weights) ring.modulus _ _ (row_combination-add ring positive rows c.0 d.0);
+    to_act = λ s c. same_canonical (place_cmp ring.weights) ring.modulus _ _ (row_combination-multiple ring positive rows s c.0);
   }
 
   -- the span of the rows
-  abbrev pub SpanOf : (vectors p positive).V → Type 0
+  abbrev pub SpanOf : (vectors ring positive).V → Type 0
   SpanOf = ImageOf combined_rows Whole
 
-  pub SpanOf-sub : IsSub (vectors p positive) SpanOf
-  SpanOf-sub = ImageOf-sub (vectors p positive) (vectors p positive) combined_rows combined_rows-map Whole (Whole-sub (vectors p positive))
+  pub SpanOf-sub : IsSub (vectors ring positive) SpanOf
+  SpanOf-sub = ImageOf-sub (vectors ring positive) (vectors ring positive) combined_rows combined_rows-map Whole (Whole-sub (vectors ring positive))
 
 -- the homogeneous vectors of degree d over a free module, with no operators
-abbrev pub vectors_of_degree : (p : ℕ) → 0 < p → List ℤ → ℤ → Group ⊥
-vectors_of_degree p positive degrees d = record {
-  V = (ts : List (Term Place)) × IsVector p degrees (record { degree = d; terms = ts });
-  zero = ([], IsVector-nil p degrees d);
-  plus = λ u v. (add place_cmp p u.0 v.0, IsVector-add p degrees positive d u.0 v.0 u.1 v.1);
-  minus = λ u. (negative p u.0, IsVector-negative p degrees d u.0 u.1);
+abbrev pub vectors_of_degree : (ring : Ring) → 0 < ring.modulus → List ℤ → ℤ → Group ⊥
+vectors_of_degree ring positive degrees d = record {
+  V = (ts : List (Term Place)) × IsVector ring degrees (record { degree = d; terms = ts });
+  zero = ([], IsVector-nil ring degrees d);
+  plus = λ u v. (add (place_cmp ring.weights) ring.modulus u.0 v.0, IsVector-add ring degrees positive d u.0 v.0 u.1 v.1);
+  minus = λ u. (negative ring.modulus u.0, IsVector-negative ring degrees d u.0 u.1);
   act = λ r u. absurd r;
-  comm = λ u v. same_vector p degrees d _ _ (add_comm place_cmp place_keys.order p positive u.0 v.0);
-  assoc = λ u v w. same_vector p degrees d _ _ (add_assoc place_cmp place_keys.order p positive u.0 v.0 w.0);
-  unit = λ u. same_vector p degrees d _ _ (add-nil place_cmp place_keys.order p positive u.0 (u.1).canonical);
-  inverse = λ u. same_vector p degrees d _ _ (add-negative place_keys p positive u.0 (u.1).canonical);
+  comm = λ u v. same_vector ring degrees d _ _ (add_comm (place_cmp ring.weights) (place_cmp_linear ring.weights) ring.modulus positive u.0 v.0);
+  assoc = λ u v w. same_vector ring degrees d _ _ (add_assoc (place_cmp ring.weights) (place_cmp_linear ring.weights) ring.modulus positive u.0 v.0 w.0);
+  unit = λ u. same_vector ring degrees d _ _ (add-nil (place_cmp ring.weights) (place_cmp_linear ring.weights) ring.modulus positive u.0 (u.1).canonical);
+  inverse = λ u. same_vector ring degrees d _ _ (add-negative (place_keys ring.weights) ring.modulus positive u.0 (u.1).canonical);
   act_plus = λ r u v. absurd r;
 }
 
-module _ (m : Matrix) (positive : 0 < m.modulus) (d : ℤ) where
+module _ (m : Matrix) (positive : 0 < m.ring.modulus) (d : ℤ) where
   -- the coefficients of degree d for the rows of a matrix
   abbrev pub coefficients_of_degree : Group ⊥
-  coefficients_of_degree = vectors_of_degree m.modulus positive (row_degrees m) d
+  coefficients_of_degree = vectors_of_degree m.ring positive (row_degrees m) d
 
   -- the vectors of degree d of its target
   abbrev pub values_of_degree : Group ⊥
-  values_of_degree = vectors_of_degree m.modulus positive m.target d
+  values_of_degree = vectors_of_degree m.ring positive m.target d
 
   -- the combination of its rows
   abbrev pub combined_matrix : IsMatrix m → coefficients_of_degree.V → values_of_degree.V
-  combined_matrix is_matrix c = (row_combination m.modulus m.rows c.0, IsVector-row_combination m positive is_matrix (record { degree = d; terms = c.0 }) c.1)
+  combined_matrix is_matrix c = (row_combination m.ring m.rows c.0, IsVector-row_combination m positive is_matrix (record { degree = d; terms = c.0 }) c.1)
 
   pub combined_matrix-map : (is_matrix : IsMatrix m) → IsMap coefficients_of_degree values_of_degree (combined_matrix is_matrix)
   combined_matrix-map is_matrix = record {
-    to_plus = λ c e. same_vector m.modulus m.target d _ _ (row_combination-add m.modulus positive m.rows c.0 e.0);
+    to_plus = λ c e. same_vector m.ring m.target d _ _ (row_combination-add m.ring positive m.rows c.0 e.0);
     to_act = λ r c. absurd r;
   }

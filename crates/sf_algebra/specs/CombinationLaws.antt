@@ -9,90 +9,91 @@ use Rattle.sf_algebra.specs.Monomials.{Monomial, monomial_cmp}
 use Rattle.sf_algebra.specs.Multiples.{place_product, multiple, negative}
 use Rattle.sf_algebra.specs.Polynomials.{polynomial_product}
 use Rattle.sf_algebra.specs.Residues.{product_mod}
+use Rattle.sf_algebra.specs.Rings.{Ring}
 use Rattle.sf_algebra.specs.Sums.{add, total, coefficient_at}
 use Rattle.sf_algebra.specs.Terms.{Term, IsCanonical}
 use Rattle.sf_algebra.specs.Vectors.{Place, Vector, place_cmp, entry}
 
 -- a combination is canonical
 abbrev pub HasCanonicalCombinations : Type 0
-HasCanonicalCombinations = (p : ℕ) → 0 < p → (rows : List Vector) (c : List (Term Place)) → IsCanonical place_cmp p (row_combination p rows c)
+HasCanonicalCombinations = (ring : Ring) → 0 < ring.modulus → (rows : List Vector) (c : List (Term Place)) → IsCanonical (place_cmp ring.weights) ring.modulus (row_combination ring rows c)
 
 -- the product of the coefficients of a term of c and a term of its row whose product stands at k, and 0 for other terms
-abbrev pub combination_part : ℕ → Place → Term Place → Term Place → ℕ
-combination_part p k t u = if is_eq (place_cmp (place_product t.at.monomial u.at) k) then product_mod p t.coefficient u.coefficient else 0
+abbrev pub combination_part : Ring → Place → Term Place → Term Place → ℕ
+combination_part ring k t u = if is_eq (place_cmp ring.weights (place_product t.at.monomial u.at) k) then product_mod ring.modulus t.coefficient u.coefficient else 0
 
 -- the coefficient of c M at k is the sum, over the terms of c and of their rows whose product stands at k, of the products of their coefficients
 abbrev pub SumsProductsOfCoefficients : Type 0
 SumsProductsOfCoefficients =
-    (p : ℕ) (rows : List Vector) (c : List (Term Place)) (k : Place)
-    → coefficient_at place_cmp p k (row_combination p rows c) ≡ total p (λ t. total p (combination_part p k t) (row_at rows t.at.position)) c
+    (ring : Ring) (rows : List Vector) (c : List (Term Place)) (k : Place)
+    → coefficient_at (place_cmp ring.weights) ring.modulus k (row_combination ring rows c) ≡ total ring.modulus (λ t. total ring.modulus (combination_part ring k t) (row_at rows t.at.position)) c
 
 -- the sum, over rows that stand from position i on, of the products of the entries of c at their positions and their entries at j
-abbrev pub entry_products : ℕ → ℕ → List (Term Place) → ℕ → List Vector → List (Term Monomial)
-entry_products p j c i [] = []
-entry_products p j c i (v ∷ vs) = add monomial_cmp p (polynomial_product p (entry i c) (entry j v.terms)) (entry_products p j c (suc i) vs)
+abbrev pub entry_products : Ring → ℕ → List (Term Place) → ℕ → List Vector → List (Term Monomial)
+entry_products ring j c i [] = []
+entry_products ring j c i (v ∷ vs) = add (monomial_cmp ring.weights) ring.modulus (polynomial_product ring (entry i c) (entry j v.terms)) (entry_products ring j c (suc i) vs)
 
 -- the entries of c M are the sums of the products of the entries of c and those of a column of M
 abbrev pub SumsProductsOfEntries : Type 0
 SumsProductsOfEntries =
-    (p : ℕ) → 0 < p → (rows : List Vector) (c : List (Term Place)) (j : ℕ) → entry j (row_combination p rows c) ≡ entry_products p j c 0 rows
+    (ring : Ring) → 0 < ring.modulus → (rows : List Vector) (c : List (Term Place)) (j : ℕ) → entry j (row_combination ring rows c) ≡ entry_products ring j c 0 rows
 
 -- one coefficient gives the multiple of the row at its position by its monomial
 abbrev pub MultipliesRows : Type 0
 MultipliesRows =
-    (p : ℕ) → 0 < p → (rows : List Vector) (t : Term Place)
-    → row_combination p rows (t ∷ []) ≡ multiple place_cmp place_product p (record { at = t.at.monomial; coefficient = t.coefficient }) (row_at rows t.at.position)
+    (ring : Ring) → 0 < ring.modulus → (rows : List Vector) (t : Term Place)
+    → row_combination ring rows (t ∷ []) ≡ multiple (place_cmp ring.weights) place_product ring.modulus (record { at = t.at.monomial; coefficient = t.coefficient }) (row_at rows t.at.position)
 
 -- the combination with a sum of coefficients
 abbrev pub IsAdditiveInCoefficients : Type 0
 IsAdditiveInCoefficients =
-    (p : ℕ) → 0 < p → (rows : List Vector) (c d : List (Term Place))
-    → row_combination p rows (add place_cmp p c d) ≡ add place_cmp p (row_combination p rows c) (row_combination p rows d)
+    (ring : Ring) → 0 < ring.modulus → (rows : List Vector) (c d : List (Term Place))
+    → row_combination ring rows (add (place_cmp ring.weights) ring.modulus c d) ≡ add (place_cmp ring.weights) ring.modulus (row_combination ring rows c) (row_combination ring rows d)
 
 -- the combination of rows each of which is the sum of two rows
 abbrev pub IsAdditiveInRows : Type 0
 IsAdditiveInRows =
-    (p : ℕ) → 0 < p → (sums rows others : List Vector) → ((i : ℕ) → row_at sums i ≡ add place_cmp p (row_at rows i) (row_at others i))
-    → (c : List (Term Place)) → row_combination p sums c ≡ add place_cmp p (row_combination p rows c) (row_combination p others c)
+    (ring : Ring) → 0 < ring.modulus → (sums rows others : List Vector) → ((i : ℕ) → row_at sums i ≡ add (place_cmp ring.weights) ring.modulus (row_at rows i) (row_at others i))
+    → (c : List (Term Place)) → row_combination ring sums c ≡ add (place_cmp ring.weights) ring.modulus (row_combination ring rows c) (row_combination ring others c)
 
 -- the combination with a multiple of the coefficients
 abbrev pub TakesMultiples : Type 0
 TakesMultiples =
-    (p : ℕ) → 0 < p → (rows : List Vector) (s : Term Monomial) (c : List (Term Place))
-    → row_combination p rows (multiple place_cmp place_product p s c) ≡ multiple place_cmp place_product p s (row_combination p rows c)
+    (ring : Ring) → 0 < ring.modulus → (rows : List Vector) (s : Term Monomial) (c : List (Term Place))
+    → row_combination ring rows (multiple (place_cmp ring.weights) place_product ring.modulus s c) ≡ multiple (place_cmp ring.weights) place_product ring.modulus s (row_combination ring rows c)
 
 -- the combination with the negatives of the coefficients
 abbrev pub TakesNegatives : Type 0
 TakesNegatives =
-    (p : ℕ) → 0 < p → (rows : List Vector) (c : List (Term Place)) → IsCanonical place_cmp p c
-    → row_combination p rows (negative p c) ≡ negative p (row_combination p rows c)
+    (ring : Ring) → 0 < ring.modulus → (rows : List Vector) (c : List (Term Place)) → IsCanonical (place_cmp ring.weights) ring.modulus c
+    → row_combination ring rows (negative ring.modulus c) ≡ negative ring.modulus (row_combination ring rows c)
 
 -- the combination of the rows of the negative of a matrix
 abbrev pub NegatesWithMatrices : Type 0
 NegatesWithMatrices =
-    (m : Matrix) → 0 < m.modulus → IsMatrix m → (c : List (Term Place))
-    → row_combination m.modulus (negated m).rows c ≡ negative m.modulus (row_combination m.modulus m.rows c)
+    (m : Matrix) → 0 < m.ring.modulus → IsMatrix m → (c : List (Term Place))
+    → row_combination m.ring (negated m).rows c ≡ negative m.ring.modulus (row_combination m.ring m.rows c)
 
 -- (c M) N is c (M N)
 abbrev pub IsAssociativeWithProducts : Type 0
 IsAssociativeWithProducts =
-    (m n : Matrix) → 0 < m.modulus → (c : List (Term Place))
-    → row_combination m.modulus n.rows (row_combination m.modulus m.rows c) ≡ row_combination m.modulus (matrix_product m n).rows c
+    (m n : Matrix) → 0 < m.ring.modulus → (c : List (Term Place))
+    → row_combination m.ring n.rows (row_combination m.ring m.rows c) ≡ row_combination m.ring (matrix_product m n).rows c
 
 -- a unit vector of coefficients picks a row
 abbrev pub PicksRows : Type 0
 PicksRows =
-    (p : ℕ) → 0 < p → (rows : List Vector) (d : ℤ) (i : ℕ) → IsCanonical place_cmp p (row_at rows i)
-    → row_combination p rows (unit_vector d i).terms ≡ row_at rows i
+    (ring : Ring) → 0 < ring.modulus → (rows : List Vector) (d : ℤ) (i : ℕ) → IsCanonical (place_cmp ring.weights) ring.modulus (row_at rows i)
+    → row_combination ring rows (unit_vector d i).terms ≡ row_at rows i
 
 -- unit rows give the coefficients back
 abbrev pub KeepsWithUnitRows : Type 0
 KeepsWithUnitRows =
-    (p : ℕ) → 0 < p → (degrees : List ℤ) (c : List (Term Place)) → IsCanonical place_cmp p c → AllByRecursion (λ t. t.at.position < length degrees) c
-    → row_combination p (unit_rows 0 degrees) c ≡ c
+    (ring : Ring) → 0 < ring.modulus → (degrees : List ℤ) (c : List (Term Place)) → IsCanonical (place_cmp ring.weights) ring.modulus c → AllByRecursion (λ t. t.at.position < length degrees) c
+    → row_combination ring (unit_rows 0 degrees) c ≡ c
 
 -- the combination of rows and further rows is the sum of a combination of each
 abbrev pub AddsOverStackedRows : Type 0
 AddsOverStackedRows =
-    (p : ℕ) → 0 < p → (rows more : List Vector) (c d : List (Term Place)) → AllByRecursion (λ t. t.at.position < length rows) c
-    → row_combination p (rows ++ more) (c ++ moved (length rows) d) ≡ add place_cmp p (row_combination p rows c) (row_combination p more d)
+    (ring : Ring) → 0 < ring.modulus → (rows more : List Vector) (c d : List (Term Place)) → AllByRecursion (λ t. t.at.position < length rows) c
+    → row_combination ring (rows ++ more) (c ++ moved (length rows) d) ≡ add (place_cmp ring.weights) ring.modulus (row_combination ring rows c) (row_combination ring more d)

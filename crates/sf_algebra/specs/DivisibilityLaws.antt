@@ -3,7 +3,8 @@
 use Rattle.std.specs.Prelude.{◌≡◌, ◌≢◌, ◌↔◌, ◌+◌, ◌≤◌}
 use Rattle.std.specs.declared.cmp.Ordering.TheVariants.{Greater}
 use Rattle.sf_algebra.specs.Divisibility.{Divides, quotient, lcm}
-use Rattle.sf_algebra.specs.Monomials.{Monomial, product, exponent_sum, monomial_cmp}
+use Rattle.sf_algebra.specs.Monomials.{Monomial, product, monomial_degree, monomial_cmp}
+use Rattle.sf_algebra.specs.Rings.{Weights, IsPositive}
 
 -- a monomial divides its multiples and nothing else
 abbrev pub DividesMultiples : Type 0
@@ -23,7 +24,7 @@ DividesAntisymmetrically = (a b : Monomial) → Divides a b → Divides b a → 
 
 -- a divisor is not greater in the order
 abbrev pub DividesNoLesser : Type 0
-DividesNoLesser = (a b : Monomial) → Divides a b → monomial_cmp a b ≢ Greater
+DividesNoLesser = (weights : Weights) → IsPositive weights → (a b : Monomial) → Divides a b → monomial_cmp weights a b ≢ Greater
 
 -- a divisor times the quotient by it is the monomial that it divides
 abbrev pub MultipliesBack : Type 0
@@ -45,10 +46,10 @@ IsCommonMultiple = (a b : Monomial) → Divides a (lcm a b) × Divides b (lcm a 
 abbrev pub IsLeastMultiple : Type 0
 IsLeastMultiple = (a b c : Monomial) → Divides a c → Divides b c → Divides (lcm a b) c
 
--- its sum of exponents is no less than theirs
-abbrev pub HasGreaterSum : Type 0
-HasGreaterSum = (a b : Monomial) → (exponent_sum a ≤ exponent_sum (lcm a b)) × (exponent_sum b ≤ exponent_sum (lcm a b))
+-- its degree is no less than theirs
+abbrev pub HasGreaterDegree : Type 0
+HasGreaterDegree = (weights : Weights) (a b : Monomial) → (monomial_degree weights a ≤ monomial_degree weights (lcm a b)) × (monomial_degree weights b ≤ monomial_degree weights (lcm a b))
 
--- its sum of exponents is no greater than theirs together
-abbrev pub HasBoundedSum : Type 0
-HasBoundedSum = (a b : Monomial) → exponent_sum (lcm a b) ≤ exponent_sum a + exponent_sum b
+-- its degree is no greater than theirs together
+abbrev pub HasBoundedDegree : Type 0
+HasBoundedDegree = (weights : Weights) (a b : Monomial) → monomial_degree weights (lcm a b) ≤ monomial_degree weights a + monomial_degree weights b

@@ -2,8 +2,10 @@ pub mod Groups
 pub mod Residues
 pub mod Primes
 pub mod Fields
+pub mod Rings
 pub mod Monomials
 pub mod Products
+pub mod DegreeLaws
 pub mod Divisibility
 pub mod DivisibilityLaws
 pub mod Orders

@@ -2,11 +2,12 @@
 -- from the right, and the rows of a presentation matrix are its relations.)
 use Rattle.std.specs.Prelude.{ℕ, List, map, ℤ}
 use Rattle.std.specs.List.{AllByRecursion}
+use Rattle.sf_algebra.specs.Rings.{Ring}
 use Rattle.sf_algebra.specs.Vectors.{Vector, IsVector}
 
--- the modulus, the degrees of the generators that the columns stand for, and the rows with their degrees
+-- the ring, the degrees of the generators that the columns stand for, and the rows with their degrees
 pub record Matrix : Type 0 where
-  pub modulus : ℕ
+  pub ring : Ring
   pub target : List ℤ
   pub rows : List Vector
 
@@ -16,4 +17,4 @@ row_degrees m = map (λ (v : Vector). v.degree) m.rows
 
 -- each row is a homogeneous vector over the target
 abbrev pub IsMatrix : Matrix → Type 0
-IsMatrix m = AllByRecursion (IsVector m.modulus m.target) m.rows
+IsMatrix m = AllByRecursion (IsVector m.ring m.target) m.rows

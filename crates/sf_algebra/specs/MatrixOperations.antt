@@ -4,6 +4,7 @@ use Rattle.std.specs.List.{filter, flat_map}
 use Rattle.sf_algebra.specs.Matrices.{Matrix, row_degrees}
 use Rattle.sf_algebra.specs.Monomials.{Monomial, one}
 use Rattle.sf_algebra.specs.Multiples.{place_product, negative, combination}
+use Rattle.sf_algebra.specs.Rings.{Ring}
 use Rattle.sf_algebra.specs.Terms.{Term}
 use Rattle.sf_algebra.specs.Vectors.{Place, Vector, place_cmp, entry}
 
@@ -14,8 +15,8 @@ row_at (v ∷ vs) zero = v.terms
 row_at (v ∷ vs) (suc i) = row_at vs i
 
 -- c M: the combination of the rows of M with the coefficients c
-abbrev pub row_combination : ℕ → List Vector → List (Term Place) → List (Term Place)
-row_combination p rows c = combination place_cmp place_product p (λ k. k.monomial) (λ k. row_at rows k.position) c
+abbrev pub row_combination : Ring → List Vector → List (Term Place) → List (Term Place)
+row_combination ring rows c = combination (place_cmp ring.weights) place_product ring.modulus (λ k. k.monomial) (λ k. row_at rows k.position) c
 
 -- the unit vector of a generator of degree d at position i
 abbrev pub unit_vector : ℤ → ℕ → Vector
@@ -26,26 +27,26 @@ abbrev pub unit_rows : ℕ → List ℤ → List Vector
 unit_rows i [] = []
 unit_rows i (d ∷ ds) = unit_vector d i ∷ unit_rows (suc i) ds
 
-abbrev pub identity : ℕ → List ℤ → Matrix
-identity p degrees = record { modulus = p; target = degrees; rows = unit_rows 0 degrees }
+abbrev pub identity : Ring → List ℤ → Matrix
+identity ring degrees = record { ring = ring; target = degrees; rows = unit_rows 0 degrees }
 
 -- the rows of a, then those of b
 abbrev pub stacked : Matrix → Matrix → Matrix
-stacked a b = record { modulus = a.modulus; target = a.target; rows = a.rows ++ b.rows }
+stacked a b = record { ring = a.ring; target = a.target; rows = a.rows ++ b.rows }
 
 -- each row of a times b
 abbrev pub matrix_product : Matrix → Matrix → Matrix
 matrix_product a b = record {
-  modulus = a.modulus;
+  ring = a.ring;
   target = b.target;
-  rows = map (λ (v : Vector). record { degree = v.degree; terms = row_combination a.modulus b.rows v.terms }) a.rows;
+  rows = map (λ (v : Vector). record { degree = v.degree; terms = row_combination a.ring b.rows v.terms }) a.rows;
 }
 
 abbrev pub negated : Matrix → Matrix
 negated m = record {
-  modulus = m.modulus;
+  ring = m.ring;
   target = m.target;
-  rows = map (λ (v : Vector). record { degree = v.degree; terms = negative m.modulus v.terms }) m.rows;
+  rows = map (λ (v : Vector). record { degree = v.degree; terms = negative m.ring.modulus v.terms }) m.rows;
 }
 
 -- the terms of a polynomial at a position
@@ -64,15 +65,15 @@ column_rows rows j (d ∷ ds) = record { degree = neg_ℤ d; terms = column_term
 
 -- the columns as rows; degrees change sign
 abbrev pub transposed : Matrix → Matrix
-transposed m = record { modulus = m.modulus; target = map neg_ℤ (row_degrees m); rows = column_rows m.rows 0 m.target }
+transposed m = record { ring = m.ring; target = map neg_ℤ (row_degrees m); rows = column_rows m.rows 0 m.target }
 
 -- terms, so many positions further on
 abbrev pub moved : ℕ → List (Term Place) → List (Term Place)
 moved by ts = map (λ (t : Term Place). record { at = record { position = by + t.at.position; monomial = t.at.monomial }; coefficient = t.coefficient }) ts
 
 -- the tensor product of a vector v and a vector w of a free module with n generators
-abbrev pub kronecker_terms : ℕ → ℕ → List (Term Place) → List (Term Place) → List (Term Place)
-kronecker_terms p n v w = combination place_cmp place_product p (λ k. k.monomial) (λ k. moved (k.position * n) w) v
+abbrev pub kronecker_terms : Ring → ℕ → List (Term Place) → List (Term Place) → List (Term Place)
+kronecker_terms ring n v w = combination (place_cmp ring.weights) place_product ring.modulus (λ k. k.monomial) (λ k. moved (k.position * n) w) v
 
 -- the sums of a degree of the first list and one of the second, the first list's degree changing last
 abbrev pub degree_sums : List ℤ → List ℤ → List ℤ
@@ -81,9 +82,9 @@ degree_sums ds es = flat_map (λ d. map (λ e. d +ℤ e) es) ds
 -- the Kronecker product: each row of a with each row of b
 abbrev pub kronecker : Matrix → Matrix → Matrix
 kronecker a b = record {
-  modulus = a.modulus;
+  ring = a.ring;
   target = degree_sums a.target b.target;
-  rows = flat_map (λ (v : Vector). map (λ (w : Vector). record { degree = v.degree +ℤ w.degree; terms = kronecker_terms a.modulus (length b.target) v.terms w.terms }) b.rows) a.rows;
+  rows = flat_map (λ (v : Vector). map (λ (w : Vector). record { degree = v.degree +ℤ w.degree; terms = kronecker_terms a.ring (length b.target) v.terms w.terms }) b.rows) a.rows;
 }
 
 -- the terms at the positions from `from` to before `to`, counted from `from`
@@ -95,7 +96,7 @@ part_terms from to ts =
 -- the rows from r0 to before r1 in the columns from c0 to before c1
 abbrev pub part : ℕ → ℕ → ℕ → ℕ → Matrix → Matrix
 part r0 r1 c0 c1 m = record {
-  modulus = m.modulus;
+  ring = m.ring;
   target = slice_range m.target c0 c1;
   rows = map (λ (v : Vector). record { degree = v.degree; terms = part_terms c0 c1 v.terms }) (slice_range m.rows r0 r1);
 }

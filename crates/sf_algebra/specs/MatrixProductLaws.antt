@@ -4,12 +4,13 @@ use Rattle.std.specs.Prelude.{◌≡◌, ℕ, ◌<◌, List, ℤ}
 use Rattle.sf_algebra.specs.CombinationLaws.{entry_products}
 use Rattle.sf_algebra.specs.Matrices.{Matrix, row_degrees, IsMatrix}
 use Rattle.sf_algebra.specs.MatrixOperations.{row_at, identity, matrix_product}
+use Rattle.sf_algebra.specs.Rings.{Ring}
 use Rattle.sf_algebra.specs.Vectors.{entry}
 
 -- the modulus is one and positive, and the rows of b stand for the columns of a
 pub record IsComposable (a b : Matrix) : Type 0 where
-  pub positive : 0 < a.modulus
-  pub moduli : a.modulus ≡ b.modulus
+  pub positive : 0 < a.ring.modulus
+  pub moduli : a.ring ≡ b.ring
   pub degrees : row_degrees b ≡ a.target
 
 -- a product is a matrix, whose rows have the degrees of the first factor's
@@ -19,21 +20,21 @@ HasMatrixProducts = (a b : Matrix) → IsComposable a b → IsMatrix a → IsMat
 -- the entry at (i, j) is the sum, over k, of the products of the first factor's at (i, k) and the second's at (k, j)
 abbrev pub MultipliesRowsByColumns : Type 0
 MultipliesRowsByColumns =
-    (a b : Matrix) → 0 < a.modulus → (i j : ℕ) → entry j (row_at (matrix_product a b).rows i) ≡ entry_products a.modulus j (row_at a.rows i) 0 b.rows
+    (a b : Matrix) → 0 < a.ring.modulus → (i j : ℕ) → entry j (row_at (matrix_product a b).rows i) ≡ entry_products a.ring j (row_at a.rows i) 0 b.rows
 
 -- an identity is a matrix from a free module to itself
 abbrev pub HasMatrixIdentities : Type 0
-HasMatrixIdentities = (p : ℕ) → 1 < p → (degrees : List ℤ) → IsMatrix (identity p degrees) × (row_degrees (identity p degrees) ≡ degrees)
+HasMatrixIdentities = (ring : Ring) → 1 < ring.modulus → (degrees : List ℤ) → IsMatrix (identity ring degrees) × (row_degrees (identity ring degrees) ≡ degrees)
 
 -- an identity before a matrix may be left out
 abbrev pub LeavesOutFirstIdentity : Type 0
-LeavesOutFirstIdentity = (m : Matrix) → 0 < m.modulus → IsMatrix m → matrix_product (identity m.modulus (row_degrees m)) m ≡ m
+LeavesOutFirstIdentity = (m : Matrix) → 0 < m.ring.modulus → IsMatrix m → matrix_product (identity m.ring (row_degrees m)) m ≡ m
 
 -- an identity behind a matrix may be left out
 abbrev pub LeavesOutSecondIdentity : Type 0
-LeavesOutSecondIdentity = (m : Matrix) → 0 < m.modulus → IsMatrix m → matrix_product m (identity m.modulus m.target) ≡ m
+LeavesOutSecondIdentity = (m : Matrix) → 0 < m.ring.modulus → IsMatrix m → matrix_product m (identity m.ring m.target) ≡ m
 
 -- three factors may be grouped either way
 abbrev pub HasAssociativeProducts : Type 0
 HasAssociativeProducts =
-    (a b c : Matrix) → 0 < a.modulus → a.modulus ≡ b.modulus → matrix_product (matrix_product a b) c ≡ matrix_product a (matrix_product b c)
+    (a b c : Matrix) → 0 < a.ring.modulus → a.ring ≡ b.ring → matrix_product (matrix_product a b) c ≡ matrix_product a (matrix_product b c)

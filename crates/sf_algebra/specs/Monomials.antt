@@ -1,8 +1,9 @@
--- Monomials in six variables and their degree reverse lexicographic order. (Cox, Little, O'Shea, "Ideals, Varieties, and
+-- Monomials in six variables, their degrees by weights, and their degree reverse lexicographic order. (Cox, Little, O'Shea, "Ideals, Varieties, and
 -- Algorithms", chapter 2, section 2.) In a ring of fewer variables the exponents past its variables are 0.
-use Rattle.std.specs.Prelude.{ℕ, ◌+◌, List, [], ◌∷◌, slice_index, slice_set, replicate}
+use Rattle.std.specs.Prelude.{ℕ, ◌+◌, ◌*◌, List, [], ◌∷◌, slice_index, slice_set, replicate}
 use Rattle.std.specs.declared.cmp.Ordering.{Ordering}
 use Rattle.std.specs.Ordering.{nat_cmp, on, flip_args, then_cmp}
+use Rattle.sf_algebra.specs.Rings.{Weights}
 
 -- the exponent of each variable, the ring's first variable first
 pub record Monomial : Type 0 where
@@ -47,14 +48,18 @@ variable i = from_exponents (slice_set (replicate VARIABLES 0) i 1)
 abbrev pub exponent_sum : Monomial → ℕ
 exponent_sum a = a.e1 + a.e2 + a.e3 + a.e4 + a.e5 + a.e6
 
+-- the degree: the sum of weight times exponent
+abbrev pub monomial_degree : Weights → Monomial → ℕ
+monomial_degree weights a = weights.w1 * a.e1 + weights.w2 * a.e2 + weights.w3 * a.e3 + weights.w4 * a.e4 + weights.w5 * a.e5 + weights.w6 * a.e6
+
 -- the greatest sum of exponents of a monomial that the program keeps
 abbrev pub GREATEST_SUM : ℕ
 GREATEST_SUM = 65535
 
--- a greater sum of exponents is greater; at equal sums, a is greater where the last exponent in which they differ is smaller in a
-abbrev pub monomial_cmp : Monomial → Monomial → Ordering
-monomial_cmp =
-    then_cmp (on exponent_sum nat_cmp)
+-- a greater degree is greater; at equal degrees, a is greater where the last exponent in which they differ is smaller in a
+abbrev pub monomial_cmp : Weights → Monomial → Monomial → Ordering
+monomial_cmp weights =
+    then_cmp (on (monomial_degree weights) nat_cmp)
     (then_cmp (flip_args (on (λ (a : Monomial). a.e6) nat_cmp))
     (then_cmp (flip_args (on (λ (a : Monomial). a.e5) nat_cmp))
     (then_cmp (flip_args (on (λ (a : Monomial). a.e4) nat_cmp))

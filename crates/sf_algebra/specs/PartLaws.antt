@@ -29,7 +29,7 @@ HasPartsOfParts =
 -- a part of a product is the product of rows of the first factor and columns of the second
 abbrev pub MultipliesParts : Type 0
 MultipliesParts =
-    (r0 r1 c0 c1 : ℕ) (a b : Matrix) → 0 < a.modulus → IsMatrix a
+    (r0 r1 c0 c1 : ℕ) (a b : Matrix) → 0 < a.ring.modulus → IsMatrix a
     → part r0 r1 c0 c1 (matrix_product a b) ≡ matrix_product (part r0 r1 0 (length a.target) a) (part 0 (length b.rows) c0 c1 b)
 
 -- the transpose of a part is a part of the transpose

@@ -3,11 +3,12 @@
 use Rattle.std.specs.Prelude.{◌≡◌}
 use Rattle.sf_algebra.specs.Monomials.{Monomial, one, product}
 use Rattle.sf_algebra.specs.Multiples.{place_product}
+use Rattle.sf_algebra.specs.Rings.{Weights}
 use Rattle.sf_algebra.specs.Vectors.{Place, place_cmp}
 
 -- the order is kept by products: two places compare as their products with a monomial do
 abbrev pub PlacesKeptByProducts : Type 0
-PlacesKeptByProducts = (c : Monomial) (a b : Place) → place_cmp (place_product c a) (place_product c b) ≡ place_cmp a b
+PlacesKeptByProducts = (weights : Weights) (c : Monomial) (a b : Place) → place_cmp weights (place_product c a) (place_product c b) ≡ place_cmp weights a b
 
 -- the monomial 1 leaves each place as it is
 abbrev pub OneActsAsIdentity : Type 0

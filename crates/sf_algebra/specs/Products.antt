@@ -1,6 +1,7 @@
 -- What holds of the product of monomials. (Cox, Little, O'Shea, "Ideals, Varieties, and Algorithms", chapter 2, section 2.)
-use Rattle.std.specs.Prelude.{◌≡◌, ◌+◌}
-use Rattle.sf_algebra.specs.Monomials.{Monomial, one, product, exponent_sum, monomial_cmp}
+use Rattle.std.specs.Prelude.{◌≡◌}
+use Rattle.sf_algebra.specs.Monomials.{Monomial, one, product, monomial_cmp}
+use Rattle.sf_algebra.specs.Rings.{Weights}
 
 -- the factors may be exchanged
 abbrev pub IsCommutative : {A : Type 0} → (A → A → A) → Type 0
@@ -14,10 +15,6 @@ IsAssociative {A} operation = (a b c : A) → operation (operation a b) c ≡ op
 abbrev pub HasOne : Type 0
 HasOne = (a : Monomial) → product one a ≡ a
 
--- the exponents of a product have the sum of the factors' sums
-abbrev pub AddsExponentSums : Type 0
-AddsExponentSums = (a b : Monomial) → exponent_sum (product a b) ≡ exponent_sum a + exponent_sum b
-
 -- the order is kept by products: two monomials compare as their products with a third one do
 abbrev pub KeptByProducts : Type 0
-KeptByProducts = (c a b : Monomial) → monomial_cmp (product c a) (product c b) ≡ monomial_cmp a b
+KeptByProducts = (weights : Weights) (c a b : Monomial) → monomial_cmp weights (product c a) (product c b) ≡ monomial_cmp weights a b

@@ -6,7 +6,7 @@ use Rattle.sf_algebra.specs.MatrixOperations.{matrix_product, negated, stacked, 
 -- matrices over one free module are stacked to a matrix
 abbrev pub HasMatrixStacks : Type 0
 HasMatrixStacks =
-    (a b : Matrix) → a.modulus ≡ b.modulus → a.target ≡ b.target → IsMatrix a → IsMatrix b
+    (a b : Matrix) → a.ring ≡ b.ring → a.target ≡ b.target → IsMatrix a → IsMatrix b
     → IsMatrix (stacked a b) × (row_degrees (stacked a b) ≡ row_degrees a ++ row_degrees b)
 
 -- the first rows are the first matrix
@@ -16,7 +16,7 @@ HasFirstRows = (a b : Matrix) → IsMatrix a → part 0 (length a.rows) 0 (lengt
 -- the rows behind them are the second matrix
 abbrev pub HasLastRows : Type 0
 HasLastRows =
-    (a b : Matrix) → a.modulus ≡ b.modulus → a.target ≡ b.target → IsMatrix b
+    (a b : Matrix) → a.ring ≡ b.ring → a.target ≡ b.target → IsMatrix b
     → part (length a.rows) (length a.rows + length b.rows) 0 (length b.target) (stacked a b) ≡ b
 
 -- rows of a matrix and the rows behind them are stacked to a part
@@ -30,8 +30,8 @@ HasAssociativeStacks = (a b c : Matrix) → stacked (stacked a b) c ≡ stacked 
 
 -- a stack times a matrix is the stack of the products
 abbrev pub MultipliesStacks : Type 0
-MultipliesStacks = (a b n : Matrix) → a.modulus ≡ b.modulus → matrix_product (stacked a b) n ≡ stacked (matrix_product a n) (matrix_product b n)
+MultipliesStacks = (a b n : Matrix) → a.ring ≡ b.ring → matrix_product (stacked a b) n ≡ stacked (matrix_product a n) (matrix_product b n)
 
 -- the negative of a stack is the stack of the negatives
 abbrev pub NegatesStacks : Type 0
-NegatesStacks = (a b : Matrix) → a.modulus ≡ b.modulus → negated (stacked a b) ≡ stacked (negated a) (negated b)
+NegatesStacks = (a b : Matrix) → a.ring ≡ b.ring → negated (stacked a b) ≡ stacked (negated a) (negated b)

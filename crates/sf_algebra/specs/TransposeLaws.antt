@@ -3,6 +3,7 @@ use Rattle.std.specs.Prelude.{◌≡◌, ℕ, ◌<◌, List, map, ℤ, neg_ℤ}
 use Rattle.sf_algebra.specs.Matrices.{Matrix, row_degrees, IsMatrix}
 use Rattle.sf_algebra.specs.MatrixOperations.{row_at, identity, matrix_product, transposed}
 use Rattle.sf_algebra.specs.MatrixProductLaws.{IsComposable}
+use Rattle.sf_algebra.specs.Rings.{Ring}
 use Rattle.sf_algebra.specs.Vectors.{entry}
 
 -- a transpose is a matrix; its rows have the negatives of the degrees of the columns
@@ -19,7 +20,7 @@ TransposesBack = (m : Matrix) → IsMatrix m → transposed (transposed m) ≡ m
 
 -- the transpose of an identity is the identity of the negatives of the degrees
 abbrev pub TransposesIdentities : Type 0
-TransposesIdentities = (p : ℕ) → 1 < p → (degrees : List ℤ) → transposed (identity p degrees) ≡ identity p (map neg_ℤ degrees)
+TransposesIdentities = (ring : Ring) → 1 < ring.modulus → (degrees : List ℤ) → transposed (identity ring degrees) ≡ identity ring (map neg_ℤ degrees)
 
 -- the transpose of a product is the product of the transposes in the other order
 abbrev pub ReversesProducts : Type 0

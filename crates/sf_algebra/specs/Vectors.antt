@@ -4,7 +4,8 @@ use Rattle.std.specs.Prelude.{◌≡◌, ◌==◌, if◌then◌else◌, ℕ, ◌
 use Rattle.std.specs.declared.cmp.Ordering.{Ordering}
 use Rattle.std.specs.Ordering.{nat_cmp, on, flip_args, then_cmp}
 use Rattle.std.specs.List.{AllByRecursion}
-use Rattle.sf_algebra.specs.Monomials.{Monomial, monomial_cmp, exponent_sum}
+use Rattle.sf_algebra.specs.Monomials.{Monomial, monomial_cmp, monomial_degree}
+use Rattle.sf_algebra.specs.Rings.{Ring, Weights}
 use Rattle.sf_algebra.specs.Terms.{Term, IsCanonical}
 
 -- where a term of a vector stands: a generator, counted from 0, and a monomial
@@ -13,10 +14,10 @@ pub record Place : Type 0 where
   pub monomial : Monomial
 
 -- an earlier position is greater; at one position the monomials decide
-abbrev pub place_cmp : Place → Place → Ordering
-place_cmp =
+abbrev pub place_cmp : Weights → Place → Place → Ordering
+place_cmp weights =
     then_cmp (flip_args (on (λ (a : Place). a.position) nat_cmp))
-    (on (λ (a : Place). a.monomial) monomial_cmp)
+    (on (λ (a : Place). a.monomial) (monomial_cmp weights))
 
 -- a vector with its degree, which a zero vector keeps
 pub record Vector : Type 0 where
@@ -28,27 +29,27 @@ abbrev pub generator_degree : List ℤ → ℕ → ℤ
 generator_degree degrees i = slice_index_or degrees i (pos 0)
 
 -- the degree of a term: that of its generator and the sum of its exponents
-abbrev pub term_degree : List ℤ → Term Place → ℤ
-term_degree degrees t = generator_degree degrees t.at.position +ℤ pos (exponent_sum t.at.monomial)
+abbrev pub term_degree : Weights → List ℤ → Term Place → ℤ
+term_degree weights degrees t = generator_degree degrees t.at.position +ℤ pos (monomial_degree weights t.at.monomial)
 
 -- a term of degree d at one of the generators
-abbrev pub IsTermOfDegree : List ℤ → ℤ → Term Place → Type 0
-IsTermOfDegree degrees d t = (t.at.position < length degrees) × (d ≡ term_degree degrees t)
+abbrev pub IsTermOfDegree : Weights → List ℤ → ℤ → Term Place → Type 0
+IsTermOfDegree weights degrees d t = (t.at.position < length degrees) × (d ≡ term_degree weights degrees t)
 
 -- all terms have degree d
-abbrev pub IsHomogeneous : List ℤ → ℤ → List (Term Place) → Type 0
-IsHomogeneous degrees d = AllByRecursion (IsTermOfDegree degrees d)
+abbrev pub IsHomogeneous : Weights → List ℤ → ℤ → List (Term Place) → Type 0
+IsHomogeneous weights degrees d = AllByRecursion (IsTermOfDegree weights degrees d)
 
 -- a vector's polynomial at a position
 abbrev pub entry : ℕ → List (Term Place) → List (Term Monomial)
 entry i = filter_map (λ t. if t.at.position == i then Some (record { at = t.at.monomial; coefficient = t.coefficient }) else None)
 
 -- the degree of a row that is written without one: that of its first term, and 0 where there is none
-abbrev pub row_degree : List ℤ → List (Term Place) → ℤ
-row_degree degrees [] = pos 0
-row_degree degrees (t ∷ ts) = term_degree degrees t
+abbrev pub row_degree : Weights → List ℤ → List (Term Place) → ℤ
+row_degree weights degrees [] = pos 0
+row_degree weights degrees (t ∷ ts) = term_degree weights degrees t
 
 -- v is a homogeneous vector over this free module, with residues modulo p
-pub record IsVector (p : ℕ) (degrees : List ℤ) (v : Vector) : Type 0 where
-  pub canonical : IsCanonical place_cmp p v.terms
-  pub homogeneous : IsHomogeneous degrees v.degree v.terms
+pub record IsVector (ring : Ring) (degrees : List ℤ) (v : Vector) : Type 0 where
+  pub canonical : IsCanonical (place_cmp ring.weights) ring.modulus v.terms
+  pub homogeneous : IsHomogeneous ring.weights degrees v.degree v.terms

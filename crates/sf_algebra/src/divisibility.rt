@@ -1,4 +1,4 @@
-ghost use Rattle.sf_algebra.specs.DivisibilityLaws.{DividesMultiples, DividesItself, DividesTransitively, DividesAntisymmetrically, DividesNoLesser, MultipliesBack, IsOnlyQuotient, CancelsFactors, IsCommonMultiple, IsLeastMultiple, HasGreaterSum, HasBoundedSum};
+ghost use Rattle.sf_algebra.specs.DivisibilityLaws.{DividesMultiples, DividesItself, DividesTransitively, DividesAntisymmetrically, DividesNoLesser, MultipliesBack, IsOnlyQuotient, CancelsFactors, IsCommonMultiple, IsLeastMultiple, HasGreaterDegree, HasBoundedDegree};
 
 /// Divisibility of monomials: exactly the multiples are divided, in a partial order that the order of monomials goes on.
 pub fn monomial_divisors()
@@ -20,6 +20,6 @@ pub fn monomial_quotients()
 pub fn monomial_multiples()
     ensures common { IsCommonMultiple }
     ensures least { IsLeastMultiple }
-    ensures sum { HasGreaterSum }
-    ensures bounded { HasBoundedSum }
+    ensures sum { HasGreaterDegree }
+    ensures bounded { HasBoundedDegree }
 {}

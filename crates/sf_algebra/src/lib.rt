@@ -5,6 +5,7 @@
 #![tactic(auto)]
 
 mod combination;
+mod degree;
 mod divisibility;
 mod matrices;
 mod multiple;
@@ -17,6 +18,7 @@ mod sum;
 mod vector;
 
 pub use combination::matrices_act;
+pub use degree::monomial_degrees;
 pub use divisibility::{monomial_divisors, monomial_multiples, monomial_quotients};
 pub use matrices::{
     kronecker_products, matrix_negatives, matrix_parts, matrix_products, matrix_stacks,

@@ -4,6 +4,7 @@ use Rattle.sf_algebra.specs.MatrixOperations.{moved, part_terms, row_at, row_com
 use Rattle.sf_algebra.specs.Monomials.{one}
 use Rattle.sf_algebra.specs.Multiples.{place_product, term_product}
 use Rattle.sf_algebra.specs.Residues.{sum_mod}
+use Rattle.sf_algebra.specs.Rings.{Ring, IsRing}
 use Rattle.sf_algebra.specs.Sums.{add, total}
 use Rattle.sf_algebra.specs.Terms.{Term, IsCanonical}
 use Rattle.sf_algebra.specs.Vectors.{Place, place_cmp}
@@ -23,40 +24,40 @@ use Rattle.sf_algebra.proofs.UnitRows.{row_at-unit_rows}
 use Rattle.sf_groebner.proofs.PairedVectors.{pair_terms-parts}
 
 -- a sum whose terms stand in order is one list after the other
-pub add-canonical_append : (p : ℕ) → 0 < p → (us vs : List (Term Place)) → IsCanonical place_cmp p (us ++ vs) → add place_cmp p us vs ≡ us ++ vs
+pub add-canonical_append : (ring : Ring) → IsRing ring → (us vs : List (Term Place)) → IsCanonical (place_cmp ring.weights) ring.modulus (us ++ vs) → add (place_cmp ring.weights) ring.modulus us vs ≡ us ++ vs
 unfolding add
-add-canonical_append p positive us vs h = normal-canonical place_cmp place_cmp_linear p positive (us ++ vs) h
+add-canonical_append ring positive us vs h = normal-canonical (place_cmp ring.weights) (place_cmp_linear ring.weights) ring.modulus positive.modulus (us ++ vs) h
 
 -- unit rows that begin at position n move coefficients by n
-pub row_combination-unit_rows_from : (p : ℕ) → 0 < p → (n : ℕ) (ds : List ℤ) (c : List (Term Place)) → IsCanonical place_cmp p c → IsWithin (length ds) c → row_combination p (unit_rows n ds) c ≡ moved n c
-row_combination-unit_rows_from p positive n ds c canonical within =
-    combination-same place_keys p positive (λ k. k.monomial) (λ k. row_at (unit_rows n ds) k.position) c (moved n c) (IsCanonical-moved p n c canonical)
+pub row_combination-unit_rows_from : (ring : Ring) → IsRing ring → (n : ℕ) (ds : List ℤ) (c : List (Term Place)) → IsCanonical (place_cmp ring.weights) ring.modulus c → IsWithin (length ds) c → row_combination ring (unit_rows n ds) c ≡ moved n c
+row_combination-unit_rows_from ring positive n ds c canonical within =
+    combination-same (place_keys ring.weights) ring.modulus positive.modulus (λ k. k.monomial) (λ k. row_at (unit_rows n ds) k.position) c (moved n c) (IsCanonical-moved ring n c canonical)
     (λ g additive.
-    total-each p _ (λ t. g (record { at = record { position = n + t.at.position; monomial = t.at.monomial }; coefficient = t.coefficient })) c
+    total-each ring.modulus _ (λ t. g (record { at = record { position = n + t.at.position; monomial = t.at.monomial }; coefficient = t.coefficient })) c
     (AllByRecursion-weaken _ _ (λ t h. moves g additive t h) c within)
-    ∙ sym (total-map p g _ c))
+    ∙ sym (total-map ring.modulus g _ c))
   where
-    moves : (g : Term Place → ℕ) → IsAdditive p g → (t : Term Place) → t.at.position < length ds
-        → share place_product p (λ k. k.monomial) (λ k. row_at (unit_rows n ds) k.position) g t % p
-        ≡ g (record { at = record { position = n + t.at.position; monomial = t.at.monomial }; coefficient = t.coefficient }) % p
+    moves : (g : Term Place → ℕ) → IsAdditive ring.modulus g → (t : Term Place) → t.at.position < length ds
+        → share place_product ring.modulus (λ k. k.monomial) (λ k. row_at (unit_rows n ds) k.position) g t % ring.modulus
+        ≡ g (record { at = record { position = n + t.at.position; monomial = t.at.monomial }; coefficient = t.coefficient }) % ring.modulus
     moves g additive t h =
-        let part = λ (u : Term Place). g (term_product place_product p (factor (λ k. k.monomial) t) u) in
+        let part = λ (u : Term Place). g (term_product place_product ring.modulus (factor (λ k. k.monomial) t) u) in
         let place : Place = record { position = n + t.at.position; monomial = t.at.monomial } in
-        ap (λ us. total p part us % p) (row_at-unit_rows ds n t.at.position h)
-        ∙ total-reduced p part _
-        ∙ total-cons p part _ []
-        ∙ ap (sum_mod p _) (total-nil p part)
-        ∙ sum_mod-zero p _
+        ap (λ us. total ring.modulus part us % ring.modulus) (row_at-unit_rows ds n t.at.position h)
+        ∙ total-reduced ring.modulus part _
+        ∙ total-cons ring.modulus part _ []
+        ∙ ap (sum_mod ring.modulus _) (total-nil ring.modulus part)
+        ∙ sum_mod-zero ring.modulus _
         ∙ (λ i.
         g (record {
           at = record { position = n + t.at.position; monomial = (product-comm t.at.monomial one ∙ product-one_first t.at.monomial) i };
-          coefficient = product_mod-one p t.coefficient i;
+          coefficient = product_mod-one ring.modulus t.coefficient i;
         })
-        % p)
-        ∙ additive-reduced p g additive place t.coefficient
+        % ring.modulus)
+        ∙ additive-reduced ring.modulus g additive place t.coefficient
 
 -- a vector is the sum of its terms at the first n positions and of those behind them
-pub add-parts : (p : ℕ) → 0 < p → (n k : ℕ) (ts : List (Term Place)) → IsCanonical place_cmp p ts → IsWithin (n + k) ts → add place_cmp p (part_terms 0 n ts) (moved n (part_terms n (n + k) ts)) ≡ ts
-add-parts p positive n k ts canonical within =
-    let parts = pair_terms-parts n k ts canonical.descending within in
-    add-canonical_append p positive (part_terms 0 n ts) (moved n (part_terms n (n + k) ts)) (subst (IsCanonical place_cmp p) (sym parts) canonical) ∙ parts
+pub add-parts : (ring : Ring) → IsRing ring → (n k : ℕ) (ts : List (Term Place)) → IsCanonical (place_cmp ring.weights) ring.modulus ts → IsWithin (n + k) ts → add (place_cmp ring.weights) ring.modulus (part_terms 0 n ts) (moved n (part_terms n (n + k) ts)) ≡ ts
+add-parts ring positive n k ts canonical within =
+    let parts = pair_terms-parts ring.weights n k ts canonical.descending within in
+    add-canonical_append ring positive (part_terms 0 n ts) (moved n (part_terms n (n + k) ts)) (subst (IsCanonical (place_cmp ring.weights) ring.modulus) (sym parts) canonical) ∙ parts

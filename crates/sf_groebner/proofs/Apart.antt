@@ -4,6 +4,7 @@ use Rattle.std.specs.Ordering.{ordering_reverse}
 use Rattle.std.specs.declared.cmp.Ordering.TheVariants.{Less, Greater}
 use Rattle.std.specs.List.{AllByRecursion}
 use Rattle.std.proofs.lemmas.Bool.{cases_Bool}
+use Rattle.sf_algebra.specs.Rings.{Weights, IsPositive}
 use Rattle.sf_algebra.specs.Terms.{Term, IsDescending}
 use Rattle.sf_algebra.specs.Vectors.{Place, Vector, place_cmp}
 use Rattle.sf_algebra.proofs.Columns.{AllByRecursion-always}
@@ -24,18 +25,18 @@ or_first_false true b h = cc
 or_first_false false b h = refl
 
 -- a divisor is not greater than what it divides
-pub place_divides-less : (j k : Place) → place_cmp k j ≡ Less → place_divides j k ≡ false
-place_divides-less j k less =
+pub place_divides-less : (weights : Weights) → IsPositive weights → (j k : Place) → place_cmp weights k j ≡ Less → place_divides j k ≡ false
+place_divides-less weights positive j k less =
     elim (cases_Bool (place_divides j k)) [
       | inl divided ↦
-          let greater : place_cmp j k ≡ Greater = place_cmp_total.antisymm j k ∙ ap ordering_reverse less in
-          absurd (PlaceDivides-place_cmp j k ((Decides-place_divides j k).0 divided) greater)
+          let greater : place_cmp weights j k ≡ Greater = (place_cmp_total weights).antisymm j k ∙ ap ordering_reverse less in
+          absurd (PlaceDivides-place_cmp weights positive j k ((Decides-place_divides j k).0 divided) greater)
       | inr not_divided ↦ not_divided
     ]
 
 -- a lead divides no term behind it
-pub lead_divides-tail : (t : Term Place) (us : List (Term Place)) → IsDescending place_cmp (t ∷ us) → AllByRecursion (λ u. lead_divides (t ∷ us) u.at ≡ false) us
-lead_divides-tail t us h = AllByRecursion-weaken _ _ (λ u less. place_divides-less t.at u.at less) us h.0
+pub lead_divides-tail : (weights : Weights) → IsPositive weights → (t : Term Place) (us : List (Term Place)) → IsDescending (place_cmp weights) (t ∷ us) → AllByRecursion (λ u. lead_divides (t ∷ us) u.at ≡ false) us
+lead_divides-tail weights positive t us h = AllByRecursion-weaken _ _ (λ u less. place_divides-less weights positive t.at u.at less) us h.0
 
 -- reduced by each of the vectors
 pub IsReducedBy-each : (vs : List Vector) (ts : List (Term Place)) → AllByRecursion (λ w. IsReducedBy (w ∷ []) ts) vs → IsReducedBy vs ts

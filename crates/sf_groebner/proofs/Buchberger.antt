@@ -4,6 +4,7 @@ use Rattle.std.proofs.Common.{◌≡◌, ⊎_elim, ℕ, ◌<◌, List, [], lengt
 use Rattle.std.specs.List.{AllByRecursion}
 use Rattle.sf_algebra.specs.MatrixOperations.{row_combination}
 use Rattle.sf_algebra.specs.Multiples.{place_product}
+use Rattle.sf_algebra.specs.Rings.{Ring, IsRing}
 use Rattle.sf_algebra.specs.Terms.{Term}
 use Rattle.sf_algebra.specs.Vectors.{Place, Vector}
 use Rattle.sf_algebra.proofs.Normal.{EachPlace}
@@ -21,50 +22,50 @@ use Rattle.sf_groebner.proofs.TopCoefficients.{Begins}
 abbrev pub IsInside : List Vector → Place → Type 0
 IsInside rows k = k.position < length rows
 
-module _ (p : ℕ) (positive : 0 < p) (rows : List Vector) where
+module _ (ring : Ring) (positive : IsRing ring) (rows : List Vector) where
   -- a pair that reduces to zero, as one that is settled, and back
-  pub IsSettled-ReducesToZero : (i j : ℕ) → HaveLeadsAtOnePosition rows i j → ReducesToZero p rows i j
-      → IsSettled p (IsInside rows) (lead_at rows) (IsZero p positive rows) (pair_place (lead_at rows) i j) (pair_place (lead_at rows) j i)
-  IsSettled-ReducesToZero i j positions h = settled-reduces p positive rows (IsInside rows) (lead_at rows) i j positions h.steps h.below h.value
+  pub IsSettled-ReducesToZero : (i j : ℕ) → HaveLeadsAtOnePosition rows i j → ReducesToZero ring rows i j
+      → IsSettled ring (IsInside rows) (lead_at rows) (IsZero ring positive rows) (pair_place (lead_at rows) i j) (pair_place (lead_at rows) j i)
+  IsSettled-ReducesToZero i j positions h = settled-reduces ring positive rows (IsInside rows) (lead_at rows) i j positions h.steps h.below h.value
 
   pub ReducesToZero-IsSettled : (i j : ℕ) → HaveLeadsAtOnePosition rows i j
-      → IsSettled p (IsInside rows) (lead_at rows) (IsZero p positive rows) (pair_place (lead_at rows) i j) (pair_place (lead_at rows) j i) → ReducesToZero p rows i j
+      → IsSettled ring (IsInside rows) (lead_at rows) (IsZero ring positive rows) (pair_place (lead_at rows) i j) (pair_place (lead_at rows) j i) → ReducesToZero ring rows i j
   ReducesToZero-IsSettled i j positions h = record {
     steps = h.lower;
-    below = subst (λ b. EachPlace (IsUnder (IsInside rows) (lead_at rows) b) h.lower) (image-pair_place (lead_at rows) j i ∙ sym (lcm_place-comm (lead_at rows) i j positions)) h.under;
-    value = reduces-settled p positive rows (IsInside rows) (lead_at rows) i j positions h;
+    below = subst (λ b. EachPlace (IsUnder ring.weights (IsInside rows) (lead_at rows) b) h.lower) (image-pair_place (lead_at rows) j i ∙ sym (lcm_place-comm (lead_at rows) i j positions)) h.under;
+    value = reduces-settled ring positive rows (IsInside rows) (lead_at rows) i j positions h;
   }
 
-  pub ReducesToZero-sym : (i j : ℕ) → HaveLeadsAtOnePosition rows i j → ReducesToZero p rows i j → ReducesToZero p rows j i
+  pub ReducesToZero-sym : (i j : ℕ) → HaveLeadsAtOnePosition rows i j → ReducesToZero ring rows i j → ReducesToZero ring rows j i
   ReducesToZero-sym i j positions h =
       ReducesToZero-IsSettled j i (sym positions)
-      (IsSettled-turn p positive (IsZero p positive rows) (IsZero-module p positive rows) (IsInside rows) (lead_at rows) i j positions (IsSettled-ReducesToZero i j positions h))
+      (IsSettled-turn ring positive (IsZero ring positive rows) (IsZero-module ring positive rows) (IsInside rows) (lead_at rows) i j positions (IsSettled-ReducesToZero i j positions h))
 
   -- the chain criterion: a pair reduces to zero where the lead of a row divides its least common multiple, and the pairs with that row do
   pub ReducesToZero-chain : (i j k : ℕ) → HaveLeadsAtOnePosition rows i k → PlaceDivides (lead_at rows j) (lcm_place (lead_at rows) i k)
-      → ReducesToZero p rows i j → ReducesToZero p rows j k → ReducesToZero p rows i k
+      → ReducesToZero ring rows i j → ReducesToZero ring rows j k → ReducesToZero ring rows i k
   ReducesToZero-chain i j k positions divides first second =
       ReducesToZero-IsSettled i k positions
-      (IsSettled-chain p (IsZero p positive rows) (IsZero-module p positive rows) (λ n. n < length rows) (lead_at rows) i j k positions divides
+      (IsSettled-chain ring (IsZero ring positive rows) (IsZero-module ring positive rows) (λ n. n < length rows) (lead_at rows) i j k positions divides
       (IsSettled-ReducesToZero i j (sym divides.0) first) (IsSettled-ReducesToZero j k (divides.0 ∙ positions) second))
 
-  module _ (monic : AllByRecursion (IsMonicRow p) rows) where
+  module _ (monic : AllByRecursion (IsMonicRow ring) rows) where
     -- the criterion for coefficients at the places in In
     pub buchberger_at : (In : Place → Type 0) → ((k : Place) → In k → k.position < length rows)
         → ((j k : Place) → In j → In k → image (lead_at rows) j ≡ image (lead_at rows) k → j.position < k.position
-        → IsSettled p (λ u. In (place_product (cofactor (lead_at rows) j k) u)) (lead_at rows) (IsZero p positive rows) (pair_place (lead_at rows) j.position k.position) (pair_place (lead_at rows) k.position j.position))
-        → (c : List (Term Place)) → EachPlace In c → HasDividedLead rows (row_combination p rows c)
+        → IsSettled ring (λ u. In (place_product (cofactor (lead_at rows) j k) u)) (lead_at rows) (IsZero ring positive rows) (pair_place (lead_at rows) j.position k.position) (pair_place (lead_at rows) k.position j.position))
+        → (c : List (Term Place)) → EachPlace In c → HasDividedLead rows (row_combination ring rows c)
     buchberger_at In inside pairs c h =
         ⊎_elim
-        (λ (none : row_combination p rows c ≡ []). subst (HasDividedLead rows) (sym none) tt)
-        (λ (found : (k : Place) × In k × Begins (image (lead_at rows) k) (row_combination p rows c)).
-        HasDividedLead-Begins p rows monic found.0 (inside found.0 found.1) (row_combination p rows c) found.2)
-        (standard p (lead_bound rows) positive In rows (lead_at rows) (monic_leads p rows monic In inside) (IsZero p positive rows) (IsZero-module p positive rows)
-        (settled_pairs p (IsZero p positive rows) (IsZero-module p positive rows) In (lead_at rows) positive pairs) (λ s none. none) c h)
+        (λ (none : row_combination ring rows c ≡ []). subst (HasDividedLead rows) (sym none) tt)
+        (λ (found : (k : Place) × In k × Begins (image (lead_at rows) k) (row_combination ring rows c)).
+        HasDividedLead-Begins ring rows monic found.0 (inside found.0 found.1) (row_combination ring rows c) found.2)
+        (standard ring (lead_bound rows) positive In rows (lead_at rows) (monic_leads ring rows monic In inside) (IsZero ring positive rows) (IsZero-module ring positive rows)
+        (settled_pairs ring (IsZero ring positive rows) (IsZero-module ring positive rows) In (lead_at rows) positive pairs) (λ s none. none) c h)
 
     -- the criterion
-    pub buchberger : ((i j : ℕ) → i < j → j < length rows → HaveLeadsAtOnePosition rows i j → ReducesToZero p rows i j)
-        → (c : List (Term Place)) → AllByRecursion (IsForRows rows) c → HasDividedLead rows (row_combination p rows c)
+    pub buchberger : ((i j : ℕ) → i < j → j < length rows → HaveLeadsAtOnePosition rows i j → ReducesToZero ring rows i j)
+        → (c : List (Term Place)) → AllByRecursion (IsForRows rows) c → HasDividedLead rows (row_combination ring rows c)
     buchberger pairs =
         buchberger_at (IsInside rows) (λ k h. h)
         (λ j k j_in k_in e earlier.

@@ -8,6 +8,7 @@ use Rattle.std.specs.List.{AllByRecursion, list_any}
 use mathlib.Core.WellFounded.{Acc}
 use Rattle.sf_algebra.specs.MatrixOperations.{row_combination}
 use Rattle.sf_algebra.specs.Primes.{IsPrime}
+use Rattle.sf_algebra.specs.Rings.{Ring, IsOverField}
 use Rattle.sf_algebra.specs.Sums.{add}
 use Rattle.sf_algebra.specs.Terms.{Term}
 use Rattle.sf_algebra.specs.Vectors.{Place, Vector, place_cmp, IsHomogeneous}
@@ -19,6 +20,7 @@ use Rattle.sf_algebra.proofs.Sums.{add-nil_first}
 use Rattle.sf_groebner.specs.Criterion.{HaveLeadsAtOnePosition, ReducesToZero, lead_at, lead_place, s_vector, pair_terms}
 use Rattle.sf_groebner.specs.Leads.{place_divides}
 use Rattle.sf_groebner.specs.ReducedBases.{HasDividedLead, IsMonic, IsReducedBy, is_divided}
+use Rattle.sf_algebra.proofs.Weights.{field_ring}
 use Rattle.sf_groebner.proofs.Antichains.{IsGrown}
 use Rattle.sf_groebner.proofs.Buchberger.{buchberger}
 use Rattle.sf_groebner.proofs.Dickson.{AddsLead, leads_acc}
@@ -62,71 +64,71 @@ pub record Completion (N : Vector → Type 0) : Type 0 where
   pub grown : IsGrown rows
   pub complete : (v : Vector) → N v → HasDividedLead rows v.terms
 
-module _ (p : ℕ) (prime : IsPrime p) (target : List ℤ) (N : Vector → Type 0) (submodule : IsSubmodule p target N) where
+module _ (ring : Ring) (prime : IsOverField ring) (target : List ℤ) (N : Vector → Type 0) (submodule : IsSubmodule ring target N) where
   -- a lead of the module that no lead of the rows divides
   abbrev HasNewLead : List Vector → Type 0
   HasNewLead rows = (k : Place) × HasMonicAt N k × (is_divided rows k ≡ false)
 
-  pub monic_vectors : (rows : List Vector) → AllByRecursion (IsMonicIn N) rows → AllByRecursion (IsMonicVector p target) rows
+  pub monic_vectors : (rows : List Vector) → AllByRecursion (IsMonicIn N) rows → AllByRecursion (IsMonicVector ring target) rows
   monic_vectors rows h = AllByRecursion-weaken _ _ (λ v k. record { vector = submodule.module_like.vectors v k.0; monic = k.1 }) rows h
 
   module _ (rows : List Vector) (monic : AllByRecursion (IsMonicIn N) rows) where
     rest_or_new : (d : ℤ) (ts : List (Term Place)) → N (record { degree = d; terms = ts }) → IsReducedBy rows ts → (ts ≡ []) ⊎ HasNewLead rows
     rest_or_new d [] h free = inl refl
-    rest_or_new d (t ∷ ts) h free = inr (t.at, monic_multiple p prime target N submodule d t ts h, free.0)
+    rest_or_new d (t ∷ ts) h free = inr (t.at, monic_multiple ring prime target N submodule d t ts h, free.0)
 
     -- a vector of the module has a division without a rest, or gives a new lead
-    division_or_new : (v : Vector) → N v → ((e : Division p target rows v) × (e.rest ≡ [])) ⊎ HasNewLead rows
+    division_or_new : (v : Vector) → N v → ((e : Division ring target rows v) × (e.rest ≡ [])) ⊎ HasNewLead rows
     division_or_new v h =
-        let e = divide p prime target rows (monic_vectors rows monic) v (submodule.module_like.vectors v h) in
-        elim (rest_or_new v.degree e.rest (rest-inside p prime target N submodule rows (AllByRecursion-weaken _ _ (λ w k. k.0) rows monic) v h e) e.free) [
+        let e = divide ring prime target rows (monic_vectors rows monic) v (submodule.module_like.vectors v h) in
+        elim (rest_or_new v.degree e.rest (rest-inside ring prime target N submodule rows (AllByRecursion-weaken _ _ (λ w k. k.0) rows monic) v h e) e.free) [
           | inl none ↦ inl (e, none)
           | inr found ↦ inr found
         ]
 
     -- it is a combination of the rows, or gives a new lead
-    combination_or_new : (v : Vector) → N v → IsCombination p rows v ⊎ HasNewLead rows
+    combination_or_new : (v : Vector) → N v → IsCombination ring rows v ⊎ HasNewLead rows
     combination_or_new v h = elim (division_or_new v h) [
       | inl found ↦ let e = found.0 in
           inl (record {
             coefficients = e.quotients;
             homogeneous = e.homogeneous;
             value =
-                sym (add-nil_first place_cmp place_cmp_linear p (omega (arith, prime.above_one)) (row_combination p rows e.quotients) (IsCanonical-row_combination p (omega (arith, prime.above_one)) rows e.quotients))
-                ∙ ap (λ ts. add place_cmp p ts (row_combination p rows e.quotients)) (sym found.1)
+                sym (add-nil_first (place_cmp ring.weights) (place_cmp_linear ring.weights) ring.modulus (field_ring prime).modulus (row_combination ring rows e.quotients) (IsCanonical-row_combination ring (field_ring prime).modulus rows e.quotients))
+                ∙ ap (λ ts. add (place_cmp ring.weights) ring.modulus ts (row_combination ring rows e.quotients)) (sym found.1)
                 ∙ e.sum;
           })
       | inr found ↦ inr found
     ]
 
     -- a pair reduces to zero, or gives a new lead
-    pair_or_new : (i : ℕ) → i < length rows → (j : ℕ) → j < length rows → (HaveLeadsAtOnePosition rows i j → ReducesToZero p rows i j) ⊎ HasNewLead rows
+    pair_or_new : (i : ℕ) → i < length rows → (j : ℕ) → j < length rows → (HaveLeadsAtOnePosition rows i j → ReducesToZero ring rows i j) ⊎ HasNewLead rows
     pair_or_new i i_in j j_in =
         elim (cases_eq (lead_at rows i).position (lead_at rows j).position) [
           | inr apart ↦ inl (λ positions. absurd (apart positions))
           | inl positions ↦
               let vectors = monic_vectors rows monic in
-              let d : ℤ = pair_degree p prime target rows vectors i j i_in j_in positions in
-              let inside : N (record { degree = d; terms = s_vector p rows i j }) =
-              submodule.combinations rows (AllByRecursion-weaken _ _ (λ w k. k.0) rows monic) d (pair_terms p (lead_at rows) i j) (pair_terms-homogeneous p prime target rows vectors i j i_in j_in positions) in
-              elim (division_or_new (record { degree = d; terms = s_vector p rows i j }) inside) [
-                | inl found ↦ inl (λ same. ReducesToZero-division p prime target rows vectors i j i_in j_in positions found.0 found.1)
+              let d : ℤ = pair_degree ring prime target rows vectors i j i_in j_in positions in
+              let inside : N (record { degree = d; terms = s_vector ring rows i j }) =
+              submodule.combinations rows (AllByRecursion-weaken _ _ (λ w k. k.0) rows monic) d (pair_terms ring.modulus (lead_at rows) i j) (pair_terms-homogeneous ring prime target rows vectors i j i_in j_in positions) in
+              elim (division_or_new (record { degree = d; terms = s_vector ring rows i j }) inside) [
+                | inl found ↦ inl (λ same. ReducesToZero-division ring prime target rows vectors i j i_in j_in positions found.0 found.1)
                 | inr found ↦ inr found
               ]
         ]
 
-    complete_or_new : (generators : List Vector) → AreGenerators p N generators → ((v : Vector) → N v → HasDividedLead rows v.terms) ⊎ HasNewLead rows
+    complete_or_new : (generators : List Vector) → AreGenerators ring N generators → ((v : Vector) → N v → HasDividedLead rows v.terms) ⊎ HasNewLead rows
     complete_or_new generators generate =
-        elim (each_or N (IsCombination p rows) (HasNewLead rows) combination_or_new generators generate.inside) [
+        elim (each_or N (IsCombination ring rows) (HasNewLead rows) combination_or_new generators generate.inside) [
           | inr found ↦ inr found
           | inl combinations ↦
-              elim (below_or (λ i. (j : ℕ) → j < length rows → HaveLeadsAtOnePosition rows i j → ReducesToZero p rows i j) (HasNewLead rows) (length rows)
-              (λ i i_in. below_or (λ j. HaveLeadsAtOnePosition rows i j → ReducesToZero p rows i j) (HasNewLead rows) (length rows) (pair_or_new i i_in))) [
+              elim (below_or (λ i. (j : ℕ) → j < length rows → HaveLeadsAtOnePosition rows i j → ReducesToZero ring rows i j) (HasNewLead rows) (length rows)
+              (λ i i_in. below_or (λ j. HaveLeadsAtOnePosition rows i j → ReducesToZero ring rows i j) (HasNewLead rows) (length rows) (pair_or_new i i_in))) [
                 | inr found ↦ inr found
                 | inl pairs ↦ inl (λ v h.
-                    let c = IsCombination-trans p rows (omega (arith, prime.above_one)) generators combinations v (generate.spans v h) in
+                    let c = IsCombination-trans ring rows (field_ring prime) generators combinations v (generate.spans v h) in
                     subst (HasDividedLead rows) c.value
-                    (buchberger p (omega (arith, prime.above_one)) rows (AllByRecursion-weaken _ _ (λ w k. record { canonical = (submodule.module_like.vectors w k.0).canonical; monic = k.1 }) rows monic)
+                    (buchberger ring (field_ring prime) rows (AllByRecursion-weaken _ _ (λ w k. record { canonical = (submodule.module_like.vectors w k.0).canonical; monic = k.1 }) rows monic)
                     (λ i j before j_in positions. pairs i (omega arith) j j_in positions)
                     c.coefficients
                     (AllByRecursion-weaken _ _ (λ t k. within t k.0) c.coefficients c.homogeneous)))
@@ -136,7 +138,7 @@ module _ (p : ℕ) (prime : IsPrime p) (target : List ℤ) (N : Vector → Type 
         within : (t : Term Place) → t.at.position < length (degrees_of rows) → t.at.position < length rows
         within t h = simp length-map at h
 
-  module _ (generators : List Vector) (generate : AreGenerators p N generators) where
+  module _ (generators : List Vector) (generate : AreGenerators ring N generators) where
     complete_from : (ks : List Place) → Acc (AddsLead (length target)) ks → (rows : List Vector) → AllByRecursion (IsMonicIn N) rows → IsGrown rows → lead_places rows ≡ ks → Completion N
     complete_from ks (Acc.intro js h) rows monic grown leads =
         elim (complete_or_new rows monic generators generate) [
@@ -145,7 +147,7 @@ module _ (p : ℕ) (prime : IsPrime p) (target : List ℤ) (N : Vector → Type 
               let k : Place = found.0 in
               let e = found.1 in
               let first : lead_place e.vector.terms ≡ k = ap lead_place e.terms in
-              let column : k.position < length target = (subst (IsHomogeneous target e.vector.degree) e.terms (submodule.module_like.vectors e.vector e.inside).homogeneous).0.0 in
+              let column : k.position < length target = (subst (IsHomogeneous ring.weights target e.vector.degree) e.terms (submodule.module_like.vectors e.vector e.inside).homogeneous).0.0 in
               let none : list_any (λ j. place_divides j k) js ≡ false =
               ap (list_any (λ j. place_divides j k)) (sym leads) ∙ sym (is_divided-lead_places rows k (AllByRecursion-weaken _ _ (λ w m. m.1) rows monic)) ∙ found.2 in
               complete_from (k ∷ js) (h (k ∷ js) (k, refl, none, column)) (e.vector ∷ rows)

@@ -5,7 +5,8 @@ use Rattle.std.proofs.lemmas.Int.{by_lt_z}
 use Rattle.std.specs.Int.Signed.{clash_ℤ}
 use Rattle.std.specs.List.{AllByRecursion}
 use Rattle.sf_algebra.specs.Matrices.{Matrix, row_degrees}
-use Rattle.sf_algebra.specs.Monomials.{exponent_sum}
+use Rattle.sf_algebra.specs.Monomials.{monomial_degree}
+use Rattle.sf_algebra.specs.Rings.{Weights}
 use Rattle.sf_algebra.specs.Terms.{Term}
 use Rattle.sf_algebra.specs.Vectors.{Place, Vector}
 use Rattle.sf_groebner.specs.Small.{GREATEST_SIZE, HasLeadUpTo, HasSmallSize, IsSmallDegree, IsWithinLimit}
@@ -37,16 +38,16 @@ decide_from P Q to from (inr fails) = inr (λ h. fails (from h))
 decide_small_degree : (d : ℤ) → IsDecided (IsSmallDegree d)
 decide_small_degree d = decide_both _ _ (decide_le_ℤ (neg_ℤ (pos 8000)) d) (decide_le_ℤ d (pos 8000))
 
-decide_lead : (limit : ℕ) (ts : List (Term Place)) → IsDecided (HasLeadUpTo limit ts)
-decide_lead limit [] = inl tt
-decide_lead limit (t ∷ ts) = decide_le (exponent_sum t.at.monomial) limit
+decide_lead : (weights : Weights) (limit : ℕ) (ts : List (Term Place)) → IsDecided (HasLeadUpTo weights limit ts)
+decide_lead weights limit [] = inl tt
+decide_lead weights limit (t ∷ ts) = decide_le (monomial_degree weights t.at.monomial) limit
 
-pub decide_within_limit : (limit : ℕ) (basis : List Vector) → IsDecided (IsWithinLimit limit basis)
-decide_within_limit limit basis =
+pub decide_within_limit : (weights : Weights) (limit : ℕ) (basis : List Vector) → IsDecided (IsWithinLimit weights limit basis)
+decide_within_limit weights limit basis =
     decide_from _ _ (λ h. record { few = h.0; low = h.1 }) (λ h. (h.few, h.low))
-    (decide_both (length basis ≤ GREATEST_SIZE) (AllByRecursion (λ (v : Vector). HasLeadUpTo limit v.terms) basis)
+    (decide_both (length basis ≤ GREATEST_SIZE) (AllByRecursion (λ (v : Vector). HasLeadUpTo weights limit v.terms) basis)
     (decide_le (length basis) GREATEST_SIZE)
-    (decide_each (λ (v : Vector). HasLeadUpTo limit v.terms) (λ (v : Vector). decide_lead limit v.terms) basis))
+    (decide_each (λ (v : Vector). HasLeadUpTo weights limit v.terms) (λ (v : Vector). decide_lead weights limit v.terms) basis))
 
 pub decide_small_size : (m : Matrix) → IsDecided (HasSmallSize m)
 decide_small_size m =

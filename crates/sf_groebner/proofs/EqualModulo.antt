@@ -2,6 +2,7 @@
 use Rattle.std.proofs.Common.{◌≡◌, ℕ, ◌<◌, List, refl, ◌∙◌, ap, subst, ℤ}
 use Rattle.sf_algebra.specs.Groups.{Group}
 use Rattle.sf_algebra.specs.Matrices.{Matrix}
+use Rattle.sf_algebra.specs.Rings.{Ring, IsRing}
 use Rattle.sf_algebra.specs.Terms.{Term, IsCanonical}
 use Rattle.sf_algebra.specs.Multiples.{negative}
 use Rattle.sf_algebra.specs.Sums.{add}
@@ -18,24 +19,24 @@ use Rattle.sf_groebner.proofs.Spans.{combined-difference}
 difference-back : {R : Type 0} (G : Group R) (u v : G.V) → G.plus u (G.minus (G.plus u (G.minus v))) ≡ v
 difference-back G u v = ap (G.plus u) (minus-difference G u v) ∙ left G u v (G.minus u) ∙ ap (G.plus v) (G.inverse u) ∙ G.unit v
 
-module _ (p : ℕ) (positive : 0 < p) where
-  module _ (us vs : List (Term Place)) (u : IsCanonical place_cmp p us) (v : IsCanonical place_cmp p vs) where
-    add-negative_back : add place_cmp p us (negative p (add place_cmp p us (negative p vs))) ≡ vs
-    add-negative_back = λ i. (difference-back (vectors p positive) (us, u) (vs, v) i).0
+module _ (ring : Ring) (positive : IsRing ring) where
+  module _ (us vs : List (Term Place)) (u : IsCanonical (place_cmp ring.weights) ring.modulus us) (v : IsCanonical (place_cmp ring.weights) ring.modulus vs) where
+    add-negative_back : add (place_cmp ring.weights) ring.modulus us (negative ring.modulus (add (place_cmp ring.weights) ring.modulus us (negative ring.modulus vs))) ≡ vs
+    add-negative_back = λ i. (difference-back (vectors ring positive.modulus) (us, u) (vs, v) i).0
 
     -- a difference and what was taken away
-    pub add-negative_again : add place_cmp p (add place_cmp p us (negative p vs)) vs ≡ us
-    add-negative_again = λ i. (difference-plus (vectors p positive) (us, u) (vs, v) i).0
+    pub add-negative_again : add (place_cmp ring.weights) ring.modulus (add (place_cmp ring.weights) ring.modulus us (negative ring.modulus vs)) vs ≡ us
+    add-negative_again = λ i. (difference-plus (vectors ring positive.modulus) (us, u) (vs, v) i).0
 
   -- a vector that is equal to one of the module is in it
-  pub AreEqualModulo-inside : (degrees : List ℤ) (N : Vector → Type 0) → IsModuleLike p degrees N → (u v : Vector) → IsCanonical place_cmp p v.terms → AreEqualModulo p N u v → N u → N v
+  pub AreEqualModulo-inside : (degrees : List ℤ) (N : Vector → Type 0) → IsModuleLike ring degrees N → (u v : Vector) → IsCanonical (place_cmp ring.weights) ring.modulus v.terms → AreEqualModulo ring N u v → N u → N v
   AreEqualModulo-inside degrees N module_like u v canonical same inside =
       let terms = add-negative_back u.terms v.terms (module_like.vectors u inside).canonical canonical in
       subst N (λ i. record { degree = same.degrees i; terms = terms i })
-      (module_like.differences u (record { degree = u.degree; terms = add place_cmp p u.terms (negative p v.terms) }) inside same.difference refl)
+      (module_like.differences u (record { degree = u.degree; terms = add (place_cmp ring.weights) ring.modulus u.terms (negative ring.modulus v.terms) }) inside same.difference refl)
 
 -- a matrix that sends N into M and B into A acts on the classes
-pub acts_on_classes : (map : Matrix) → 0 < map.modulus → (N B M A : Vector → Type 0) → ((v : Vector) → N v → IsCanonical place_cmp map.modulus v.terms)
+pub acts_on_classes : (map : Matrix) → IsRing map.ring → (N B M A : Vector → Type 0) → ((v : Vector) → N v → IsCanonical (place_cmp map.ring.weights) map.ring.modulus v.terms)
     → ((v : Vector) → N v → M (combined map v)) → ((v : Vector) → B v → A (combined map v)) → ActsOnClasses N B M A map
 acts_on_classes map positive N B M A canonical elements zeros = record {
   elements = elements;
@@ -44,6 +45,6 @@ acts_on_classes map positive N B M A canonical elements zeros = record {
     degrees = same.degrees;
     difference = subst A (combined-difference map positive u v (canonical v k)) (zeros _ same.difference);
   };
-  sums = λ us vs. row_combination-add map.modulus positive map.rows us vs;
-  multiples = λ s us. row_combination-multiple map.modulus positive map.rows s us;
+  sums = λ us vs. row_combination-add map.ring positive.modulus map.rows us vs;
+  multiples = λ s us. row_combination-multiple map.ring positive.modulus map.rows s us;
 }

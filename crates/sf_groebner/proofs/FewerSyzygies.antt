@@ -3,6 +3,7 @@
 use Rattle.std.proofs.Common.{◌≡◌, ℕ, ◌<◌, List, [], ◌∷◌, length, ⊎_elim, inl, inr}
 use Rattle.std.specs.List.{AllByRecursion}
 use Rattle.sf_algebra.specs.MatrixOperations.{row_at, row_combination}
+use Rattle.sf_algebra.specs.Rings.{Ring, IsRing}
 use Rattle.sf_algebra.specs.Terms.{Term}
 use Rattle.sf_algebra.specs.Vectors.{Place, Vector}
 use Rattle.sf_groebner.specs.Criterion.{HaveLeadsAtOnePosition, IsForRows, IsMonicRow, IsPairSyzygy, lead_at, pair_place, pair_terms}
@@ -14,38 +15,38 @@ use Rattle.sf_groebner.proofs.Pairs.{IsSettled-chain, IsSettled-turn, same_lead_
 use Rattle.sf_groebner.proofs.Schreyer.{IsSpanned, IsSpanned-module, IsSpanned-row, SameTotals-from_sum, schreyer_at}
 
 -- one of the rows zs is a syzygy of the pair
-abbrev pub HasPairSyzygy : ℕ → List Vector → List Vector → ℕ → ℕ → Type 0
-HasPairSyzygy p rows zs i j = (k : ℕ) × (k < length zs) × IsPairSyzygy p rows i j (row_at zs k)
+abbrev pub HasPairSyzygy : Ring → List Vector → List Vector → ℕ → ℕ → Type 0
+HasPairSyzygy ring rows zs i j = (k : ℕ) × (k < length zs) × IsPairSyzygy ring rows i j (row_at zs k)
 
-module _ (p : ℕ) (positive : 0 < p) (rows zs : List Vector) where
+module _ (ring : Ring) (positive : IsRing ring) (rows zs : List Vector) where
   -- a pair is settled by the combinations of zs
   abbrev pub IsSettledBySyzygies : ℕ → ℕ → Type 0
-  IsSettledBySyzygies i j = IsSettled p (IsInside rows) (lead_at rows) (IsSpanned p zs) (pair_place (lead_at rows) i j) (pair_place (lead_at rows) j i)
+  IsSettledBySyzygies i j = IsSettled ring (IsInside rows) (lead_at rows) (IsSpanned ring zs) (pair_place (lead_at rows) i j) (pair_place (lead_at rows) j i)
 
-  pub IsSettled-syzygy : (i j : ℕ) → HaveLeadsAtOnePosition rows i j → HasPairSyzygy p rows zs i j → IsSettledBySyzygies i j
+  pub IsSettled-syzygy : (i j : ℕ) → HaveLeadsAtOnePosition rows i j → HasPairSyzygy ring rows zs i j → IsSettledBySyzygies i j
   IsSettled-syzygy i j positions found =
-      settled-syzygy p positive rows (IsInside rows) (lead_at rows) i j positions (IsSpanned p zs) found.2.steps (row_at zs found.0) found.2.below
-      (IsSpanned-row p positive zs found.0 found.1)
-      (SameTotals-from_sum p (row_at zs found.0) found.2.steps (pair_terms p (lead_at rows) i j) found.2.sum)
+      settled-syzygy ring positive rows (IsInside rows) (lead_at rows) i j positions (IsSpanned ring zs) found.2.steps (row_at zs found.0) found.2.below
+      (IsSpanned-row ring positive zs found.0 found.1)
+      (SameTotals-from_sum ring (row_at zs found.0) found.2.steps (pair_terms ring.modulus (lead_at rows) i j) found.2.sum)
 
   -- the pairs that were handled, each by a syzygy or by the chain criterion, are settled
-  IsHandled-settled : (handled : List (ℕ × ℕ)) → IsHandled (HasPairSyzygy p rows zs) rows handled → IsHandled IsSettledBySyzygies rows handled
+  IsHandled-settled : (handled : List (ℕ × ℕ)) → IsHandled (HasPairSyzygy ring rows zs) rows handled → IsHandled IsSettledBySyzygies rows handled
   IsHandled-settled [] h = tt
   IsHandled-settled (x ∷ earlier) h = (
     h.0,
-    ⊎_elim (λ (found : HasPairSyzygy p rows zs x.0 x.1). inl (IsSettled-syzygy x.0 x.1 h.0 found)) (λ (chained : IsChained rows earlier x.0 x.1). inr chained) h.1,
+    ⊎_elim (λ (found : HasPairSyzygy ring rows zs x.0 x.1). inl (IsSettled-syzygy x.0 x.1 h.0 found)) (λ (chained : IsChained rows earlier x.0 x.1). inr chained) h.1,
     IsHandled-settled earlier h.2,
   )
 
-  pub schreyer_handled : AllByRecursion (λ (z : Vector). row_combination p rows z.terms ≡ []) zs → AllByRecursion (IsMonicRow p) rows
-      → (handled : List (ℕ × ℕ)) → IsHandled (HasPairSyzygy p rows zs) rows handled
+  pub schreyer_handled : AllByRecursion (λ (z : Vector). row_combination ring rows z.terms ≡ []) zs → AllByRecursion (IsMonicRow ring) rows
+      → (handled : List (ℕ × ℕ)) → IsHandled (HasPairSyzygy ring rows zs) rows handled
       → ((i j : ℕ) → i < j → j < length rows → HaveLeadsAtOnePosition rows i j → IsEarlierPair handled i j)
-      → (c : List (Term Place)) → AllByRecursion (IsForRows rows) c → row_combination p rows c ≡ [] → IsSpanned p zs c
+      → (c : List (Term Place)) → AllByRecursion (IsForRows rows) c → row_combination ring rows c ≡ [] → IsSpanned ring zs c
   schreyer_handled syzygies monic handled h all =
-      schreyer_at p positive rows zs syzygies monic (IsInside rows) (λ k inside. inside)
+      schreyer_at ring positive rows zs syzygies monic (IsInside rows) (λ k inside. inside)
       (λ j k j_in k_in e earlier.
       let positions = same_lead_position (lead_at rows) j k e in
       IsHandled-either rows IsSettledBySyzygies
-      (IsSettled-turn p positive (IsSpanned p zs) (IsSpanned-module p positive zs) (IsInside rows) (lead_at rows))
-      (IsSettled-chain p (IsSpanned p zs) (IsSpanned-module p positive zs) (λ n. n < length rows) (lead_at rows))
+      (IsSettled-turn ring positive (IsSpanned ring zs) (IsSpanned-module ring positive zs) (IsInside rows) (lead_at rows))
+      (IsSettled-chain ring (IsSpanned ring zs) (IsSpanned-module ring positive zs) (λ n. n < length rows) (lead_at rows))
       handled (IsHandled-settled handled h) j.position k.position positions (all j.position k.position earlier k_in positions))

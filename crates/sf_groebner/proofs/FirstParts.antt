@@ -2,6 +2,7 @@
 use Rattle.std.proofs.Common.{◌≡◌, Bool, true, false, not, ℕ, ◌<◌, List, [], ◌∷◌, length, slice_range, refl, sym, ◌∙◌, ap, subst, ℤ, arith}
 use Rattle.std.specs.List.{AllByRecursion}
 use Rattle.sf_algebra.specs.MatrixOperations.{part_terms}
+use Rattle.sf_algebra.specs.Rings.{Ring, IsRing}
 use Rattle.sf_algebra.specs.Terms.{Term, IsDescending}
 use Rattle.sf_algebra.specs.Vectors.{Place, Vector, place_cmp, IsVector}
 use Rattle.sf_algebra.proofs.PartTerms.{IsVector-part_terms}
@@ -12,9 +13,9 @@ use Rattle.sf_groebner.proofs.PartSums.{part_terms-difference}
 use Rattle.sf_groebner.proofs.PartLeads.{has_terms-first, has_terms-later, has_terms-position, has_no_terms-position, has_terms-none}
 use Rattle.sf_groebner.proofs.ReducedParts.{IsPart, reduced_part}
 
-module _ (p : ℕ) (degrees : List ℤ) (N : Vector → Type 0) (vectors : (v : Vector) → N v → IsVector p degrees v) (n : ℕ) where
-  descending : (w : Vector) → N w → (t : Term Place) (ts : List (Term Place)) → w.terms ≡ t ∷ ts → IsDescending place_cmp (t ∷ ts)
-  descending w h t ts e = subst (IsDescending place_cmp) e (vectors w h).canonical.descending
+module _ (ring : Ring) (degrees : List ℤ) (N : Vector → Type 0) (vectors : (v : Vector) → N v → IsVector ring degrees v) (n : ℕ) where
+  descending : (w : Vector) → N w → (t : Term Place) (ts : List (Term Place)) → w.terms ≡ t ∷ ts → IsDescending (place_cmp ring.weights) (t ∷ ts)
+  descending w h t ts e = subst (IsDescending (place_cmp ring.weights)) e (vectors w h).canonical.descending
 
   -- v is the part of a vector of the module at the first n positions
   abbrev pub IsFirstPart : Vector → Type 0
@@ -22,24 +23,24 @@ module _ (p : ℕ) (degrees : List ℤ) (N : Vector → Type 0) (vectors : (v : 
 
   pub first_part : IsPart 0 n (has_first_part n) N IsFirstPart
   first_part = record {
-    kept = λ w h k t ts e. (omega arith, has_terms-position n t ts (descending w h t ts e) (sym (ap (λ us. has_terms (part_terms 0 n us)) e) ∙ k));
+    kept = λ w h k t ts e. (omega arith, has_terms-position n t ts ring.weights (descending w h t ts e) (sym (ap (λ us. has_terms (part_terms 0 n us)) e) ∙ k));
     keeps = λ w h t ts e between. ap (λ us. has_terms (part_terms 0 n us)) e ∙ has_terms-first n t ts between.1;
     inside = λ w h k. (w, h, refl);
     lifted = λ v h t ts e. (h.0, h.1, ap (λ (x : Vector). has_terms x.terms) h.2 ∙ ap has_terms e, h.2);
   }
 
   -- the nonzero first parts of the elements are the reduced basis of the first parts of all vectors
-  pub reduced-first_parts : (basis : List Vector) → IsReducedBasis N basis → IsReducedBasis IsFirstPart (first_parts n basis)
-  reduced-first_parts basis h = reduced_part 0 n (has_first_part n) N IsFirstPart first_part basis h
+  pub reduced-first_parts : (basis : List Vector) → IsReducedBasis ring.weights N basis → IsReducedBasis ring.weights IsFirstPart (first_parts n basis)
+  reduced-first_parts basis h = reduced_part 0 n (has_first_part n) N IsFirstPart first_part ring.weights basis h
 
   -- differences of first parts are first parts
-  pub first_part_module : 0 < p → ((u v : Vector) → N u → N v → u.degree ≡ v.degree → N (difference p u v)) → IsModuleLike p (slice_range degrees 0 n) IsFirstPart
+  pub first_part_module : IsRing ring → ((u v : Vector) → N u → N v → u.degree ≡ v.degree → N (difference ring u v)) → IsModuleLike ring (slice_range degrees 0 n) IsFirstPart
   first_part_module positive differences = record {
-    vectors = λ v h. subst (IsVector p (slice_range degrees 0 n)) h.2 (IsVector-part_terms p degrees 0 n h.0 (vectors h.0 h.1));
+    vectors = λ v h. subst (IsVector ring (slice_range degrees 0 n)) h.2 (IsVector-part_terms ring degrees 0 n h.0 (vectors h.0 h.1));
     differences = λ u v h k e. (
-      difference p h.0 k.0,
+      difference ring h.0 k.0,
       differences h.0 k.0 h.1 k.1 (ap (λ x. x.degree) h.2 ∙ e ∙ sym (ap (λ x. x.degree) k.2)),
-      (λ i. record { degree = h.0.degree; terms = part_terms-difference p 0 n positive h.0.terms k.0.terms i }) ∙ (λ i. difference p (h.2 i) (k.2 i)),
+      (λ i. record { degree = h.0.degree; terms = part_terms-difference ring 0 n positive h.0.terms k.0.terms i }) ∙ (λ i. difference ring (h.2 i) (k.2 i)),
     );
   }
 
@@ -57,10 +58,10 @@ module _ (p : ℕ) (degrees : List ℤ) (N : Vector → Type 0) (vectors : (v : 
       has_no_terms-position n t ts (sym (ap (λ us. has_terms (part_terms 0 n us)) e) ∙ not_true (has_first_part n w) k),
       (subst (AllByRecursion _) e (vectors w h).homogeneous).0.0,
     );
-    keeps = λ w h t ts e between. ap not (ap (λ us. has_terms (part_terms 0 n us)) e ∙ has_terms-later n t ts (descending w h t ts e) between.0);
+    keeps = λ w h t ts e between. ap not (ap (λ us. has_terms (part_terms 0 n us)) e ∙ has_terms-later n t ts ring.weights (descending w h t ts e) between.0);
     inside = λ w h k. (w, h, has_terms-none (part_terms 0 n w.terms) (not_true (has_first_part n w) k), refl);
     lifted = λ v h t ts e. (h.0, h.1, ap (λ us. not (has_terms us)) h.2, h.3);
   }
 
-  pub reduced-last_parts : (basis : List Vector) → IsReducedBasis N basis → IsReducedBasis IsLastPart (last_parts n (length degrees) basis)
-  reduced-last_parts basis h = reduced_part n (length degrees) (λ (w : Vector). not (has_first_part n w)) N IsLastPart last_part basis h
+  pub reduced-last_parts : (basis : List Vector) → IsReducedBasis ring.weights N basis → IsReducedBasis ring.weights IsLastPart (last_parts n (length degrees) basis)
+  reduced-last_parts basis h = reduced_part n (length degrees) (λ (w : Vector). not (has_first_part n w)) N IsLastPart last_part ring.weights basis h

@@ -2,6 +2,7 @@
 use Rattle.std.proofs.Common.{◌≡◌, ℕ, ◌<◌, List, [], ◌∷◌, sym, ◌∙◌, ap, ℤ, arith}
 use Rattle.sf_algebra.specs.Matrices.{Matrix}
 use Rattle.sf_algebra.specs.MatrixOperations.{row_combination}
+use Rattle.sf_algebra.specs.Rings.{Ring, IsRing}
 use Rattle.sf_algebra.specs.Terms.{Term}
 use Rattle.sf_algebra.specs.Vectors.{Place, Vector}
 use Rattle.sf_algebra.proofs.Keys.{place_keys}
@@ -14,40 +15,40 @@ use Rattle.sf_groebner.specs.Spans.{InSpan, IsSyzygy}
 use Rattle.sf_groebner.proofs.GraphParts.{IsWithin-coefficients}
 use Rattle.sf_groebner.proofs.SameModules.{IsReducedBasis-same}
 
-pub row_combination-no_rows : (p : ℕ) → 0 < p → (c : List (Term Place)) → row_combination p [] c ≡ []
-row_combination-no_rows p positive c = combination-no_rows place_keys p positive (λ (k : Place). k.monomial) c
+pub row_combination-no_rows : (ring : Ring) → IsRing ring → (c : List (Term Place)) → row_combination ring [] c ≡ []
+row_combination-no_rows ring positive c = combination-no_rows (place_keys ring.weights) ring.modulus positive.modulus (λ (k : Place). k.monomial) c
 
-pub span-no_rows : (p : ℕ) → 0 < p → (target : List ℤ) (v : Vector) → InSpan (matrix_of p target []) v → v.terms ≡ []
-span-no_rows p positive target v h = sym (ap (λ (w : Vector). w.terms) h.2) ∙ row_combination-no_rows p positive h.0.terms
+pub span-no_rows : (ring : Ring) → IsRing ring → (target : List ℤ) (v : Vector) → InSpan (matrix_of ring target []) v → v.terms ≡ []
+span-no_rows ring positive target v h = sym (ap (λ (w : Vector). w.terms) h.2) ∙ row_combination-no_rows ring positive h.0.terms
 
 no_lead : (ts : List (Term Place)) → IsWithin 0 ts → HasDividedLead [] ts
 no_lead [] h = tt
 no_lead (t ∷ ts) h = absurd (omega (arith, h.0))
 
 -- no rows have no relations
-pub reduced-no_rows : (p : ℕ) (target : List ℤ) (B : Vector → Type 0) → IsReducedBasis (IsRelation (matrix_of p target []) B) []
-reduced-no_rows p target B = record {
+pub reduced-no_rows : (ring : Ring) (target : List ℤ) (B : Vector → Type 0) → IsReducedBasis ring.weights (IsRelation (matrix_of ring target []) B) []
+reduced-no_rows ring target B = record {
   inside = tt;
   monic = tt;
-  complete = λ c h. no_lead c.terms (IsWithin-coefficients (matrix_of p target []) c h.coefficients);
+  complete = λ c h. no_lead c.terms (IsWithin-coefficients (matrix_of ring target []) c h.coefficients);
   apart = tt;
   sorted = tt;
 }
 
-module _ (m : Matrix) (positive : 0 < m.modulus) (target : List ℤ) where
-  relation_from_syzygy : (c : Vector) → IsSyzygy m c → IsRelation m (InSpan (matrix_of m.modulus target [])) c
+module _ (m : Matrix) (positive : IsRing m.ring) (target : List ℤ) where
+  relation_from_syzygy : (c : Vector) → IsSyzygy m c → IsRelation m (InSpan (matrix_of m.ring target [])) c
   relation_from_syzygy c h = record {
     coefficients = h.coefficients;
     inside = (
       record { degree = c.degree; terms = [] },
       record { canonical = record { descending = tt; residues = tt }; homogeneous = tt },
-      λ i. record { degree = c.degree; terms = (row_combination-no_rows m.modulus positive [] ∙ sym h.zero) i },
+      λ i. record { degree = c.degree; terms = (row_combination-no_rows m.ring positive [] ∙ sym h.zero) i },
     );
   }
 
-  syzygy_from_relation : (c : Vector) → IsRelation m (InSpan (matrix_of m.modulus target [])) c → IsSyzygy m c
-  syzygy_from_relation c h = record { coefficients = h.coefficients; zero = span-no_rows m.modulus positive target _ h.inside }
+  syzygy_from_relation : (c : Vector) → IsRelation m (InSpan (matrix_of m.ring target [])) c → IsSyzygy m c
+  syzygy_from_relation c h = record { coefficients = h.coefficients; zero = span-no_rows m.ring positive target _ h.inside }
 
   -- relations modulo no rows are syzygies
-  pub reduced-free_relations : (basis : List Vector) → IsReducedBasis (IsSyzygy m) basis → IsReducedBasis (IsRelation m (InSpan (matrix_of m.modulus target []))) basis
-  reduced-free_relations basis h = IsReducedBasis-same (IsSyzygy m) (IsRelation m (InSpan (matrix_of m.modulus target []))) relation_from_syzygy syzygy_from_relation basis h
+  pub reduced-free_relations : (basis : List Vector) → IsReducedBasis m.ring.weights (IsSyzygy m) basis → IsReducedBasis m.ring.weights (IsRelation m (InSpan (matrix_of m.ring target []))) basis
+  reduced-free_relations basis h = IsReducedBasis-same m.ring.weights (IsSyzygy m) (IsRelation m (InSpan (matrix_of m.ring target []))) relation_from_syzygy syzygy_from_relation basis h

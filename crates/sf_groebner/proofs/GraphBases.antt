@@ -4,6 +4,7 @@ use Rattle.std.proofs.Common.{◌≡◌, ℕ, ◌+◌, ◌<◌, List, ◌++◌, 
 use Rattle.std.specs.List.{AllByRecursion}
 use Rattle.sf_algebra.specs.Matrices.{Matrix, row_degrees, IsMatrix}
 use Rattle.sf_algebra.specs.MatrixOperations.{row_combination, unit_rows}
+use Rattle.sf_algebra.specs.Rings.{IsRing}
 use Rattle.sf_algebra.specs.Terms.{Term}
 use Rattle.sf_algebra.specs.Vectors.{Place, Vector, IsVector}
 use Rattle.sf_algebra.proofs.HomogeneousVectors.{IsVector-row_combination}
@@ -26,15 +27,15 @@ pub record IsGraphCandidate (m : Matrix) (rows more : List Vector) : Type 0 wher
   pub values : with_terms (value_terms m) rows ≡ m.rows
   pub units : with_terms (coefficient_terms m) rows ≡ unit_rows 0 (row_degrees m)
   pub inside : AllByRecursion (IsGraphVector m) (rows ++ more)
-  pub monic : AllByRecursion (IsMonicRow m.modulus) (rows ++ more)
-  pub pairs : (i j : ℕ) → i < j → j < length (rows ++ more) → HaveLeadsAtOnePosition (rows ++ more) i j → ReducesToZero m.modulus (rows ++ more) i j
+  pub monic : AllByRecursion (IsMonicRow m.ring) (rows ++ more)
+  pub pairs : (i j : ℕ) → i < j → j < length (rows ++ more) → HaveLeadsAtOnePosition (rows ++ more) i j → ReducesToZero m.ring (rows ++ more) i j
   pub apart : IsApart (rows ++ more)
-  pub sorted : IsSorted (rows ++ more)
+  pub sorted : IsSorted m.ring.weights (rows ++ more)
 
-module _ (m : Matrix) (positive : 0 < m.modulus) (rows more : List Vector) (h : IsGraphCandidate m rows more) where
+module _ (m : Matrix) (positive : IsRing m.ring) (rows more : List Vector) (h : IsGraphCandidate m rows more) where
   -- the first rows as a matrix over the graph's module
   abbrev over_graph : Matrix
-  over_graph = record { modulus = m.modulus; target = graph_degrees m; rows = rows }
+  over_graph = record { ring = m.ring; target = graph_degrees m; rows = rows }
 
   IsMatrix-over_graph : IsMatrix over_graph
   IsMatrix-over_graph = AllByRecursion-weaken _ _ (λ v k. k.vector) rows (AllByRecursion-front (IsGraphVector m) rows more h.inside)
@@ -47,50 +48,50 @@ module _ (m : Matrix) (positive : 0 < m.modulus) (rows more : List Vector) (h : 
     own = coefficient_terms m w.terms
 
     abbrev combination : List (Term Place)
-    combination = row_combination m.modulus rows own
+    combination = row_combination m.ring rows own
 
     IsCoefficients-over_graph : IsCoefficients over_graph (record { degree = w.degree; terms = own })
-    IsCoefficients-over_graph = subst (λ ds. IsVector m.modulus ds (record { degree = w.degree; terms = own })) (sym row_degrees-over_graph) (graph_coefficients m w of_graph)
+    IsCoefficients-over_graph = subst (λ ds. IsVector m.ring ds (record { degree = w.degree; terms = own })) (sym row_degrees-over_graph) (graph_coefficients m w of_graph)
 
-    IsVector-combination : IsVector m.modulus (graph_degrees m) (record { degree = w.degree; terms = combination })
-    IsVector-combination = IsVector-row_combination over_graph positive IsMatrix-over_graph (record { degree = w.degree; terms = own }) IsCoefficients-over_graph
+    IsVector-combination : IsVector m.ring (graph_degrees m) (record { degree = w.degree; terms = combination })
+    IsVector-combination = IsVector-row_combination over_graph positive.modulus IsMatrix-over_graph (record { degree = w.degree; terms = own }) IsCoefficients-over_graph
 
-    within : (v : Vector) → IsVector m.modulus (graph_degrees m) v → IsWithin (length m.target + length m.rows) v.terms
-    within v k = subst (λ n. IsWithin n v.terms) (length-graph_degrees m) (IsWithin-IsVector m.modulus (graph_degrees m) v k)
+    within : (v : Vector) → IsVector m.ring (graph_degrees m) v → IsWithin (length m.target + length m.rows) v.terms
+    within v k = subst (λ n. IsWithin n v.terms) (length-graph_degrees m) (IsWithin-IsVector m.ring (graph_degrees m) v k)
 
     value_terms-combination : value_terms m combination ≡ value_terms m w.terms
     value_terms-combination =
-        part_terms-row_combination m.modulus positive 0 (length m.target) rows own
-        ∙ ap (λ vs. row_combination m.modulus vs own) h.values
+        part_terms-row_combination m.ring positive.modulus 0 (length m.target) rows own
+        ∙ ap (λ vs. row_combination m.ring vs own) h.values
         ∙ sym of_graph.value
 
     coefficient_terms-combination : coefficient_terms m combination ≡ own
     coefficient_terms-combination =
         let of_rows = graph_coefficients m w of_graph in
-        part_terms-row_combination m.modulus positive (length m.target) (length m.target + length m.rows) rows own
-        ∙ ap (λ vs. row_combination m.modulus vs own) h.units
-        ∙ row_combination-unit_rows m.modulus positive (row_degrees m) own of_rows.canonical (IsWithin-IsVector m.modulus (row_degrees m) _ of_rows)
+        part_terms-row_combination m.ring positive.modulus (length m.target) (length m.target + length m.rows) rows own
+        ∙ ap (λ vs. row_combination m.ring vs own) h.units
+        ∙ row_combination-unit_rows m.ring positive.modulus (row_degrees m) own of_rows.canonical (IsWithin-IsVector m.ring (row_degrees m) _ of_rows)
 
     -- a vector of the graph is the combination of the first rows with its coefficients
     combination-graph : combination ≡ w.terms
     combination-graph =
-        sym (pair_terms-parts (length m.target) (length m.rows) combination IsVector-combination.canonical.descending (within _ IsVector-combination))
+        sym (pair_terms-parts m.ring.weights (length m.target) (length m.rows) combination IsVector-combination.canonical.descending (within _ IsVector-combination))
         ∙ (λ i. pair_terms (length m.target) (value_terms-combination i) (coefficient_terms-combination i))
-        ∙ pair_terms-parts (length m.target) (length m.rows) w.terms of_graph.vector.canonical.descending (within w of_graph.vector)
+        ∙ pair_terms-parts m.ring.weights (length m.target) (length m.rows) w.terms of_graph.vector.canonical.descending (within w of_graph.vector)
 
     for_rows : AllByRecursion (IsForRows rows) own
     for_rows = IsWithin-coefficients over_graph (record { degree = w.degree; terms = own }) IsCoefficients-over_graph
 
     HasDividedLead-graph : HasDividedLead (rows ++ more) w.terms
     HasDividedLead-graph =
-        subst (HasDividedLead (rows ++ more)) (row_combination-more_rows rows more m.modulus positive own for_rows ∙ combination-graph)
-        (buchberger m.modulus positive (rows ++ more) h.monic h.pairs own
+        subst (HasDividedLead (rows ++ more)) (row_combination-more_rows rows more m.ring positive own for_rows ∙ combination-graph)
+        (buchberger m.ring positive (rows ++ more) h.monic h.pairs own
         (AllByRecursion-weaken _ _ (λ t k. length-more rows more t.at.position k) own for_rows))
 
-  pub reduced_graph : IsReducedBasis (IsGraphVector m) (rows ++ more)
+  pub reduced_graph : IsReducedBasis m.ring.weights (IsGraphVector m) (rows ++ more)
   reduced_graph = record {
     inside = h.inside;
-    monic = AllByRecursion-weaken (IsMonicRow m.modulus) (λ v. IsMonic v.terms) (λ v k. k.monic) (rows ++ more) h.monic;
+    monic = AllByRecursion-weaken (IsMonicRow m.ring) (λ v. IsMonic v.terms) (λ v k. k.monic) (rows ++ more) h.monic;
     complete = λ w k. HasDividedLead-graph w k;
     apart = h.apart;
     sorted = h.sorted;

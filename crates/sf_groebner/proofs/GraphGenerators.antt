@@ -5,6 +5,7 @@ use Rattle.std.proofs.lemmas.List.{length-map}
 use Rattle.std.specs.List.{AllByRecursion}
 use Rattle.sf_algebra.specs.Matrices.{Matrix, IsMatrix, row_degrees}
 use Rattle.sf_algebra.specs.MatrixOperations.{moved, part_terms, row_at, row_combination, unit_rows}
+use Rattle.sf_algebra.specs.Rings.{IsRing}
 use Rattle.sf_algebra.specs.Sums.{add}
 use Rattle.sf_algebra.specs.Terms.{Term, IsCanonical}
 use Rattle.sf_algebra.specs.Vectors.{Place, Vector, place_cmp, IsHomogeneous, IsVector}
@@ -29,13 +30,10 @@ use Rattle.sf_groebner.proofs.PairedVectors.{IsCanonical-pair, pair_terms}
 use Rattle.sf_groebner.proofs.Spans.{graph_module}
 use Rattle.sf_groebner.proofs.Submodules.{IsSubmodule}
 
-module _ (m : Matrix) (above : 1 < m.modulus) (matrix : IsMatrix m) where
-  positive : 0 < m.modulus
-  positive = omega (arith, above)
-
+module _ (m : Matrix) (positive : IsRing m.ring) (above : 1 < m.ring.modulus) (matrix : IsMatrix m) where
   -- the terms of the vector of the graph with given coefficients
   abbrev graph_terms : List (Term Place) → List (Term Place)
-  graph_terms c = pair_terms (length m.target) (row_combination m.modulus m.rows c) c
+  graph_terms c = pair_terms (length m.target) (row_combination m.ring m.rows c) c
 
   -- each row with the unit vector of its position behind it
   abbrev pub graph_rows : List Vector
@@ -44,7 +42,7 @@ module _ (m : Matrix) (above : 1 < m.modulus) (matrix : IsMatrix m) where
   graph_rows-inside : AllByRecursion (IsGraphVector m) graph_rows
   graph_rows-inside =
       AllByRecursion-map (IsGraphVector m) (λ (c : Vector). record { degree = c.degree; terms = graph_terms c.terms }) (unit_rows 0 (row_degrees m))
-      (AllByRecursion-weaken _ _ (λ c h. IsGraphVector-graph_of m positive c (IsVector-row_combination m positive matrix c h) h) (unit_rows 0 (row_degrees m)) (IsMatrix-identity m.modulus above (row_degrees m)))
+      (AllByRecursion-weaken _ _ (λ c h. IsGraphVector-graph_of m positive c (IsVector-row_combination m positive.modulus matrix c h) h) (unit_rows 0 (row_degrees m)) (IsMatrix-identity m.ring above (row_degrees m)))
 
   degrees-graph_rows : degrees_of graph_rows ≡ row_degrees m
   degrees-graph_rows = degrees-with_terms graph_terms (unit_rows 0 (row_degrees m)) ∙ degrees-unit_rows 0 (row_degrees m)
@@ -52,69 +50,69 @@ module _ (m : Matrix) (above : 1 < m.modulus) (matrix : IsMatrix m) where
   length-row_degrees : length (row_degrees m) ≡ length m.rows
   length-row_degrees = length-map m.rows (λ (v : Vector). v.degree)
 
-  row_at-graph_rows : (i : ℕ) → row_at graph_rows i ≡ add place_cmp m.modulus (row_at m.rows i) (row_at (unit_rows (length m.target) (row_degrees m)) i)
+  row_at-graph_rows : (i : ℕ) → row_at graph_rows i ≡ add (place_cmp m.ring.weights) m.ring.modulus (row_at m.rows i) (row_at (unit_rows (length m.target) (row_degrees m)) i)
   row_at-graph_rows i =
-      row_at-map graph_terms (ap (λ us. us ++ []) (row_combination-nil m.modulus positive m.rows)) (unit_rows 0 (row_degrees m)) i
+      row_at-map graph_terms (ap (λ us. us ++ []) (row_combination-nil m.ring positive.modulus m.rows)) (unit_rows 0 (row_degrees m)) i
       ∙ elim (cases_lt i (length m.rows)) [
         | inl within ↦
-            let p = m.modulus in
+            let ring = m.ring in
             let n = length m.target in
-            let row = AllByRecursion-row_at (λ d ts. IsVector p m.target (record { degree = d; terms = ts })) m.rows matrix i within in
+            let row = AllByRecursion-row_at (λ d ts. IsVector ring m.target (record { degree = d; terms = ts })) m.rows matrix i within in
             let inside : i < length (row_degrees m) = rw length-row_degrees within in
             let unit : List (Term Place) = unit_term i ∷ [] in
-            let unit_canonical : IsCanonical place_cmp p unit = record { descending = (tt, tt); residues = ((omega arith, above), tt) } in
-            let pair = IsCanonical-pair p n (row_at m.rows i) unit (AllByRecursion-weaken _ _ (λ t h. h.0) (row_at m.rows i) row.homogeneous) row.canonical unit_canonical in
+            let unit_canonical : IsCanonical (place_cmp ring.weights) ring.modulus unit = record { descending = (tt, tt); residues = ((omega arith, above), tt) } in
+            let pair = IsCanonical-pair ring n (row_at m.rows i) unit (AllByRecursion-weaken _ _ (λ t h. h.0) (row_at m.rows i) row.homogeneous) row.canonical unit_canonical in
             ap graph_terms (row_at-unit_rows (row_degrees m) 0 i inside ∙ ap (λ j. unit_term j ∷ []) (zero-add i))
-            ∙ ap (λ us. us ++ moved n unit) (row_combination-unit p positive m.rows i row.canonical)
-            ∙ sym (add-canonical_append p positive (row_at m.rows i) (moved n unit) pair)
-            ∙ ap (add place_cmp p (row_at m.rows i)) (sym (row_at-unit_rows (row_degrees m) n i inside))
+            ∙ ap (λ us. us ++ moved n unit) (row_combination-unit ring positive.modulus m.rows i row.canonical)
+            ∙ sym (add-canonical_append ring positive (row_at m.rows i) (moved n unit) pair)
+            ∙ ap (add (place_cmp ring.weights) ring.modulus (row_at m.rows i)) (sym (row_at-unit_rows (row_degrees m) n i inside))
         | inr past ↦
             let none : (from : ℕ) → row_at (unit_rows from (row_degrees m)) i ≡ [] = λ from. row_at-past (unit_rows from (row_degrees m)) i (rw (length-unit_rows, length-row_degrees) past) in
             ap graph_terms (none 0)
-            ∙ ap (λ us. us ++ []) (row_combination-nil m.modulus positive m.rows)
-            ∙ sym (add-nil place_cmp place_cmp_linear m.modulus positive [] (record { descending = tt; residues = tt }))
-            ∙ (λ j. add place_cmp m.modulus (sym (row_at-past m.rows i past) j) (sym (none (length m.target)) j))
+            ∙ ap (λ us. us ++ []) (row_combination-nil m.ring positive.modulus m.rows)
+            ∙ sym (add-nil (place_cmp m.ring.weights) (place_cmp_linear m.ring.weights) m.ring.modulus positive.modulus [] (record { descending = tt; residues = tt }))
+            ∙ (λ j. add (place_cmp m.ring.weights) m.ring.modulus (sym (row_at-past m.rows i past) j) (sym (none (length m.target)) j))
       ]
 
-  graph_rows-spans : (w : Vector) → IsGraphVector m w → IsCombination m.modulus graph_rows w
+  graph_rows-spans : (w : Vector) → IsGraphVector m w → IsCombination m.ring graph_rows w
   graph_rows-spans w h =
-      let p = m.modulus in
+      let ring = m.ring in
       let n = length m.target in
       let c = coefficient_terms m w.terms in
       let vector = graph_coefficients m w h in
       record {
         coefficients = c;
-        homogeneous = subst (λ ds. IsHomogeneous ds w.degree c) (sym degrees-graph_rows) vector.homogeneous;
+        homogeneous = subst (λ ds. IsHomogeneous m.ring.weights ds w.degree c) (sym degrees-graph_rows) vector.homogeneous;
         value =
-            row_combination-add_rows p positive graph_rows m.rows (unit_rows n (row_degrees m)) row_at-graph_rows c
-            ∙ (λ i. add place_cmp p (sym h.value i) (row_combination-unit_rows_from p positive n (row_degrees m) c vector.canonical (AllByRecursion-weaken _ _ (λ t k. k.0) c vector.homogeneous) i))
-            ∙ add-parts p positive n (length m.rows) w.terms h.vector.canonical (subst (λ l. IsWithin l w.terms) (length-graph_degrees m) (AllByRecursion-weaken _ _ (λ t k. k.0) w.terms h.vector.homogeneous));
+            row_combination-add_rows ring positive.modulus graph_rows m.rows (unit_rows n (row_degrees m)) row_at-graph_rows c
+            ∙ (λ i. add (place_cmp ring.weights) ring.modulus (sym h.value i) (row_combination-unit_rows_from ring positive n (row_degrees m) c vector.canonical (AllByRecursion-weaken _ _ (λ t k. k.0) c vector.homogeneous) i))
+            ∙ add-parts ring positive n (length m.rows) w.terms h.vector.canonical (subst (λ l. IsWithin l w.terms) (length-graph_degrees m) (AllByRecursion-weaken _ _ (λ t k. k.0) w.terms h.vector.homogeneous));
       }
 
-  pub graph_generators : AreGenerators m.modulus (IsGraphVector m) graph_rows
+  pub graph_generators : AreGenerators m.ring (IsGraphVector m) graph_rows
   graph_generators = record { inside = graph_rows-inside; spans = graph_rows-spans }
 
   -- combinations of vectors of the graph are vectors of the graph
-  graph_combinations : (rows : List Vector) → AllByRecursion (IsGraphVector m) rows → (d : ℤ) (c : List (Term Place)) → IsHomogeneous (degrees_of rows) d c
-      → IsGraphVector m (record { degree = d; terms = row_combination m.modulus rows c })
+  graph_combinations : (rows : List Vector) → AllByRecursion (IsGraphVector m) rows → (d : ℤ) (c : List (Term Place)) → IsHomogeneous m.ring.weights (degrees_of rows) d c
+      → IsGraphVector m (record { degree = d; terms = row_combination m.ring rows c })
   graph_combinations rows inside d c h =
-      let p = m.modulus in
+      let ring = m.ring in
       let n = length m.target in
       let end = n + length m.rows in
-      let parts = matrix_of p (row_degrees m) (with_terms (part_terms n end) rows) in
+      let parts = matrix_of ring (row_degrees m) (with_terms (part_terms n end) rows) in
       record {
         vector = record {
-          canonical = IsCanonical-row_combination p positive rows c;
-          homogeneous = IsHomogeneous-row_combination (graph_degrees m) p rows (AllByRecursion-weaken _ _ (λ w k. k.vector.homogeneous) rows inside) d c h;
+          canonical = IsCanonical-row_combination ring positive.modulus rows c;
+          homogeneous = IsHomogeneous-row_combination (graph_degrees m) ring rows (AllByRecursion-weaken _ _ (λ w k. k.vector.homogeneous) rows inside) d c h;
         };
         value =
-            part_terms-row_combination p positive 0 n rows c
-            ∙ ap (λ us. row_combination p us c)
-            (with_terms-each (part_terms 0 n) (λ ts. row_combination p m.rows (part_terms n end ts)) rows (AllByRecursion-weaken _ _ (λ w k. k.value) rows inside)
-            ∙ sym (with_terms-with_terms (row_combination p m.rows) (part_terms n end) rows))
-            ∙ row_combination-matrix_product p positive parts m c refl
-            ∙ ap (row_combination p m.rows) (sym (part_terms-row_combination p positive n end rows c));
+            part_terms-row_combination ring positive.modulus 0 n rows c
+            ∙ ap (λ us. row_combination ring us c)
+            (with_terms-each (part_terms 0 n) (λ ts. row_combination ring m.rows (part_terms n end ts)) rows (AllByRecursion-weaken _ _ (λ w k. k.value) rows inside)
+            ∙ sym (with_terms-with_terms (row_combination ring m.rows) (part_terms n end) rows))
+            ∙ row_combination-matrix_product ring positive.modulus parts m c refl
+            ∙ ap (row_combination ring m.rows) (sym (part_terms-row_combination ring positive.modulus n end rows c));
       }
 
-  pub graph_submodule : IsSubmodule m.modulus (graph_degrees m) (IsGraphVector m)
+  pub graph_submodule : IsSubmodule m.ring (graph_degrees m) (IsGraphVector m)
   graph_submodule = record { module_like = graph_module m positive; combinations = graph_combinations }

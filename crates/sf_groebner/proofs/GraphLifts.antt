@@ -3,6 +3,7 @@ use Rattle.std.proofs.Common.{◌≡◌, true, not, ◌<◌, ◌+◌, List, [], 
 use Rattle.std.specs.List.{AllByRecursion}
 use Rattle.sf_algebra.specs.Matrices.{Matrix}
 use Rattle.sf_algebra.specs.MatrixOperations.{part_terms}
+use Rattle.sf_algebra.specs.Rings.{IsRing}
 use Rattle.sf_algebra.specs.Vectors.{Vector}
 use Rattle.sf_algebra.proofs.Filters.{AllByRecursion-filter_keeps, AllByRecursion-filter}
 use Rattle.sf_groebner.specs.Cuts.{part_of, has_first_part, last_parts}
@@ -15,17 +16,17 @@ use Rattle.sf_groebner.proofs.GraphParts.{length-graph_degrees, graph_coefficien
 use Rattle.sf_groebner.proofs.Items.{IsItem, AllByRecursion-item, AllByRecursion-from_items, AllByRecursion-both}
 use Rattle.sf_groebner.proofs.ReducedParts.{elements, reduced_by-parts}
 
-module _ (m : Matrix) (positive : 0 < m.modulus) (basis : List Vector) (h : IsReducedBasis (IsGraphVector m) basis) where
+module _ (m : Matrix) (positive : IsRing m.ring) (basis : List Vector) (h : IsReducedBasis m.ring.weights (IsGraphVector m) basis) where
   coefficients-reduced : (w : Vector) → IsItem w basis → has_first_part (length m.target) w ≡ true
       → IsReducedBy (last_parts (length m.target) (length m.target + length m.rows) basis) (part_terms (length m.target) (length m.target + length m.rows) w.terms)
   coefficients-reduced w item first =
       let n = length m.target in
       let end = length (graph_degrees m) in
       let keep = λ (v : Vector). not (has_first_part n v) in
-      let P = IsLastPart m.modulus (graph_degrees m) (IsGraphVector m) (λ w k. k.vector) n in
-      let cut = last_part m.modulus (graph_degrees m) (IsGraphVector m) (λ w k. k.vector) n in
+      let P = IsLastPart m.ring (graph_degrees m) (IsGraphVector m) (λ w k. k.vector) n in
+      let cut = last_part m.ring (graph_degrees m) (IsGraphVector m) (λ w k. k.vector) n in
       subst (λ e. IsReducedBy (last_parts n e basis) (part_terms n e w.terms)) (length-graph_degrees m)
-      (reduced_by-parts n end keep (IsGraphVector m) P cut basis (elements n end keep (IsGraphVector m) P cut basis h) w
+      (reduced_by-parts n end keep (IsGraphVector m) P cut basis (elements n end keep (IsGraphVector m) P cut m.ring.weights basis h) w
       (AllByRecursion-from_items (λ v. keep v ≡ true → IsReducedBy (v ∷ []) w.terms) basis
       (λ v other kept. IsApart-items basis w v h.apart item other (λ same. let clash : keep w ≡ true = ap keep same ∙ kept in let no = sym (ap not first) ∙ clash in cc))))
 

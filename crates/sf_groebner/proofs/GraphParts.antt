@@ -3,6 +3,7 @@ use Rattle.std.proofs.Common.{◌≡◌, ℕ, ◌+◌, ◌<◌, List, [], length
 use Rattle.std.proofs.lemmas.List.{length-append, length-map}
 use Rattle.sf_algebra.specs.Matrices.{Matrix, row_degrees, IsMatrix}
 use Rattle.sf_algebra.specs.MatrixOperations.{row_combination, part_terms}
+use Rattle.sf_algebra.specs.Rings.{Ring, IsRing}
 use Rattle.sf_algebra.specs.Vectors.{Vector, IsVector}
 use Rattle.sf_algebra.proofs.Lists.{AllByRecursion-weaken}
 use Rattle.sf_algebra.proofs.MatrixRows.{IsWithin}
@@ -16,11 +17,11 @@ use Rattle.sf_groebner.proofs.PairedVectors.{pair_terms, part_terms-pair_first, 
 use Rattle.sf_groebner.proofs.SameModules.{IsReducedBasis-same}
 use Rattle.sf_groebner.proofs.Spans.{span_module}
 
-pub IsWithin-IsVector : (p : ℕ) (degrees : List ℤ) (v : Vector) → IsVector p degrees v → IsWithin (length degrees) v.terms
-IsWithin-IsVector p degrees v h = AllByRecursion-weaken _ _ (λ t e. e.0) v.terms h.homogeneous
+pub IsWithin-IsVector : (ring : Ring) (degrees : List ℤ) (v : Vector) → IsVector ring degrees v → IsWithin (length degrees) v.terms
+IsWithin-IsVector ring degrees v h = AllByRecursion-weaken _ _ (λ t e. e.0) v.terms h.homogeneous
 
 pub IsWithin-coefficients : (m : Matrix) (c : Vector) → IsCoefficients m c → IsWithin (length m.rows) c.terms
-IsWithin-coefficients m c h = subst (λ n. IsWithin n c.terms) (length-map m.rows (λ (v : Vector). v.degree)) (IsWithin-IsVector m.modulus (row_degrees m) c h)
+IsWithin-coefficients m c h = subst (λ n. IsWithin n c.terms) (length-map m.rows (λ (v : Vector). v.degree)) (IsWithin-IsVector m.ring (row_degrees m) c h)
 
 module _ (m : Matrix) where
   -- how many positions the graph's free module has
@@ -30,9 +31,9 @@ module _ (m : Matrix) where
   -- the coefficients of a vector of the graph
   pub graph_coefficients : (w : Vector) → IsGraphVector m w → IsCoefficients m (part_of (length m.target) (length m.target + length m.rows) w)
   graph_coefficients w h =
-      subst (λ ds. IsVector m.modulus ds (part_of (length m.target) (length m.target + length m.rows) w))
+      subst (λ ds. IsVector m.ring ds (part_of (length m.target) (length m.target + length m.rows) w))
       (slice_range-second m.target (row_degrees m) (length m.target) (length m.target + length m.rows) refl (rw length-map (omega arith)))
-      (IsVector-part_terms m.modulus (graph_degrees m) (length m.target) (length m.target + length m.rows) w h.vector)
+      (IsVector-part_terms m.ring (graph_degrees m) (length m.target) (length m.target + length m.rows) w h.vector)
 
   -- they give its value
   pub graph_value : (w : Vector) → IsGraphVector m w → combined m (part_of (length m.target) (length m.target + length m.rows) w) ≡ part_of 0 (length m.target) w
@@ -40,23 +41,23 @@ module _ (m : Matrix) where
 
   -- the vector of the graph with these coefficients
   abbrev pub graph_of : Vector → Vector
-  graph_of c = record { degree = c.degree; terms = pair_terms (length m.target) (row_combination m.modulus m.rows c.terms) c.terms }
+  graph_of c = record { degree = c.degree; terms = pair_terms (length m.target) (row_combination m.ring m.rows c.terms) c.terms }
 
-  module _ (positive : 0 < m.modulus) where
+  module _ (positive : IsRing m.ring) where
     abbrev pub IsValue : Vector → Type 0
-    IsValue c = IsVector m.modulus m.target (combined m c)
+    IsValue c = IsVector m.ring m.target (combined m c)
 
-    graph_of-first : (c : Vector) → IsValue c → value_terms m (graph_of c).terms ≡ row_combination m.modulus m.rows c.terms
-    graph_of-first c h = part_terms-pair_first (length m.target) (row_combination m.modulus m.rows c.terms) c.terms (IsWithin-IsVector m.modulus m.target (combined m c) h)
+    graph_of-first : (c : Vector) → IsValue c → value_terms m (graph_of c).terms ≡ row_combination m.ring m.rows c.terms
+    graph_of-first c h = part_terms-pair_first (length m.target) (row_combination m.ring m.rows c.terms) c.terms (IsWithin-IsVector m.ring m.target (combined m c) h)
 
     graph_of-last : (c : Vector) → IsValue c → IsCoefficients m c → coefficient_terms m (graph_of c).terms ≡ c.terms
     graph_of-last c h k =
-        part_terms-pair_last (length m.target) (length m.rows) (row_combination m.modulus m.rows c.terms) c.terms (IsWithin-IsVector m.modulus m.target (combined m c) h) (IsWithin-coefficients m c k)
+        part_terms-pair_last (length m.target) (length m.rows) (row_combination m.ring m.rows c.terms) c.terms (IsWithin-IsVector m.ring m.target (combined m c) h) (IsWithin-coefficients m c k)
 
     pub IsGraphVector-graph_of : (c : Vector) → IsValue c → IsCoefficients m c → IsGraphVector m (graph_of c)
     IsGraphVector-graph_of c h k = record {
-      vector = IsVector-pair m.target (row_degrees m) c.degree m.modulus (row_combination m.modulus m.rows c.terms) c.terms h k;
-      value = graph_of-first c h ∙ ap (row_combination m.modulus m.rows) (sym (graph_of-last c h k));
+      vector = IsVector-pair m.target (row_degrees m) c.degree m.ring (row_combination m.ring m.rows c.terms) c.terms h k;
+      value = graph_of-first c h ∙ ap (row_combination m.ring m.rows) (sym (graph_of-last c h k));
     }
 
     abbrev IsValuePart : Vector → Type 0
@@ -67,14 +68,14 @@ module _ (m : Matrix) where
 
     part_from_span : IsMatrix m → (v : Vector) → InSpan m v → IsValuePart v
     part_from_span matrix v h =
-        let value : IsValue h.0 = subst (IsVector m.modulus m.target) (sym h.2) ((span_module m positive matrix).vectors v h) in
+        let value : IsValue h.0 = subst (IsVector m.ring m.target) (sym h.2) ((span_module m positive matrix).vectors v h) in
         (graph_of h.0, IsGraphVector-graph_of h.0 value h.1, (λ i. record { degree = h.0.degree; terms = graph_of-first h.0 value i }) ∙ h.2)
 
     -- the value parts of the rows of the graph's reduced basis
-    pub reduced-span : IsMatrix m → (basis : List Vector) → IsReducedBasis (IsGraphVector m) basis → IsReducedBasis (InSpan m) (first_parts (length m.target) basis)
+    pub reduced-span : IsMatrix m → (basis : List Vector) → IsReducedBasis m.ring.weights (IsGraphVector m) basis → IsReducedBasis m.ring.weights (InSpan m) (first_parts (length m.target) basis)
     reduced-span matrix basis h =
-        IsReducedBasis-same IsValuePart (InSpan m) span_from_part (part_from_span matrix) (first_parts (length m.target) basis)
-        (reduced-first_parts m.modulus (graph_degrees m) (IsGraphVector m) (λ w k. k.vector) (length m.target) basis h)
+        IsReducedBasis-same m.ring.weights IsValuePart (InSpan m) span_from_part (part_from_span matrix) (first_parts (length m.target) basis)
+        (reduced-first_parts m.ring (graph_degrees m) (IsGraphVector m) (λ w k. k.vector) (length m.target) basis h)
 
     abbrev IsCoefficientPart : ℕ → Vector → Type 0
     IsCoefficientPart end c = (w : Vector) × IsGraphVector m w × (part_terms 0 (length m.target) w.terms ≡ []) × (part_of (length m.target) end w ≡ c)
@@ -86,13 +87,13 @@ module _ (m : Matrix) where
     part_from_syzygy : (c : Vector) → IsSyzygy m c → IsCoefficientPart (length m.target + length m.rows) c
     part_from_syzygy c h =
         let value : IsValue c =
-        subst (λ ts. IsVector m.modulus m.target (record { degree = c.degree; terms = ts })) (sym h.zero) (record { canonical = record { descending = tt; residues = tt }; homogeneous = tt }) in
+        subst (λ ts. IsVector m.ring m.target (record { degree = c.degree; terms = ts })) (sym h.zero) (record { canonical = record { descending = tt; residues = tt }; homogeneous = tt }) in
         (graph_of c, IsGraphVector-graph_of c value h.coefficients, graph_of-first c value ∙ h.zero, (λ i. record { degree = c.degree; terms = graph_of-last c value h.coefficients i }))
 
     -- the coefficient parts of the rows without a value part
-    pub reduced-syzygies : (basis : List Vector) → IsReducedBasis (IsGraphVector m) basis
-        → IsReducedBasis (IsSyzygy m) (last_parts (length m.target) (length m.target + length m.rows) basis)
+    pub reduced-syzygies : (basis : List Vector) → IsReducedBasis m.ring.weights (IsGraphVector m) basis
+        → IsReducedBasis m.ring.weights (IsSyzygy m) (last_parts (length m.target) (length m.target + length m.rows) basis)
     reduced-syzygies basis h =
-        IsReducedBasis-same (IsCoefficientPart (length m.target + length m.rows)) (IsSyzygy m) syzygy_from_part part_from_syzygy _
-        (subst (λ end. IsReducedBasis (IsCoefficientPart end) (last_parts (length m.target) end basis)) length-graph_degrees
-        (reduced-last_parts m.modulus (graph_degrees m) (IsGraphVector m) (λ w k. k.vector) (length m.target) basis h))
+        IsReducedBasis-same m.ring.weights (IsCoefficientPart (length m.target + length m.rows)) (IsSyzygy m) syzygy_from_part part_from_syzygy _
+        (subst (λ end. IsReducedBasis m.ring.weights (IsCoefficientPart end) (last_parts (length m.target) end basis)) length-graph_degrees
+        (reduced-last_parts m.ring (graph_degrees m) (IsGraphVector m) (λ w k. k.vector) (length m.target) basis h))

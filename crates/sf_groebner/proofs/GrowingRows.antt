@@ -8,6 +8,7 @@ use Rattle.sf_algebra.specs.MatrixOperations.{row_at, row_combination}
 use Rattle.sf_algebra.specs.Monomials.{one}
 use Rattle.sf_algebra.specs.Multiples.{place_product, multiple}
 use Rattle.sf_algebra.specs.Residues.{negative_mod}
+use Rattle.sf_algebra.specs.Rings.{Ring, Weights, IsRing}
 use Rattle.sf_algebra.specs.Sums.{add}
 use Rattle.sf_algebra.specs.Terms.{Term}
 use Rattle.sf_algebra.specs.Vectors.{Place, Vector, place_cmp}
@@ -42,64 +43,64 @@ module _ (rows more : List Vector) where
       record { at = record { position = i; monomial = quotient (lcm (e n).monomial (f n).monomial) (e n).monomial }; coefficient = 1 }
       ∷ (record { at = record { position = j; monomial = quotient (lcm (f n).monomial (e n).monomial) (f n).monomial }; coefficient = negative_mod p 1 } ∷ [])
 
-  pub HasImageBelow-append : (b : Place) (c : List (Term Place)) → AllByRecursion (HasImageBelow rows b) c → AllByRecursion (HasImageBelow (rows ++ more) b) c
-  HasImageBelow-append b c h =
+  pub HasImageBelow-append : (weights : Weights) (b : Place) (c : List (Term Place)) → AllByRecursion (HasImageBelow weights rows b) c → AllByRecursion (HasImageBelow weights (rows ++ more) b) c
+  HasImageBelow-append weights b c h =
       AllByRecursion-weaken _ _
-      (λ t below. (length-more t.at.position below.0, ap (λ l. place_cmp (place_product t.at.monomial l) b) (lead_at-append t.at.position below.0) ∙ below.1)) c h
+      (λ t below. (length-more t.at.position below.0, ap (λ l. place_cmp weights (place_product t.at.monomial l) b) (lead_at-append t.at.position below.0) ∙ below.1)) c h
 
-  module _ (p : ℕ) (positive : 0 < p) where
+  module _ (ring : Ring) (positive : IsRing ring) where
     -- coefficients for the rows give what they gave
-    pub row_combination-more_rows : (c : List (Term Place)) → AllByRecursion (IsForRows rows) c → row_combination p (rows ++ more) c ≡ row_combination p rows c
+    pub row_combination-more_rows : (c : List (Term Place)) → AllByRecursion (IsForRows rows) c → row_combination ring (rows ++ more) c ≡ row_combination ring rows c
     row_combination-more_rows c h =
-        combination-rows place_keys p positive (λ k. k.monomial) (λ k. row_at (rows ++ more) k.position) (λ k. row_at rows k.position) c
+        combination-rows (place_keys ring.weights) ring.modulus positive.modulus (λ k. k.monomial) (λ k. row_at (rows ++ more) k.position) (λ k. row_at rows k.position) c
         (AllByRecursion-weaken _ _ (λ t within. row_at-append_first rows more t.at.position within) c h)
 
-    pub s_vector-append : (i j : ℕ) → i < length rows → j < length rows → s_vector p (rows ++ more) i j ≡ s_vector p rows i j
+    pub s_vector-append : (i j : ℕ) → i < length rows → j < length rows → s_vector ring (rows ++ more) i j ≡ s_vector ring rows i j
     s_vector-append i j h k =
-        ap (row_combination p (rows ++ more)) (pair_terms-append p i j h k)
-        ∙ row_combination-more_rows (pair_terms p (lead_at rows) i j) (h, (k, tt))
+        ap (row_combination ring (rows ++ more)) (pair_terms-append ring.modulus i j h k)
+        ∙ row_combination-more_rows (pair_terms ring.modulus (lead_at rows) i j) (h, (k, tt))
 
     -- a pair that reduces to zero still does
-    pub ReducesToZero-append : (i j : ℕ) → i < length rows → j < length rows → ReducesToZero p rows i j → ReducesToZero p (rows ++ more) i j
+    pub ReducesToZero-append : (i j : ℕ) → i < length rows → j < length rows → ReducesToZero ring rows i j → ReducesToZero ring (rows ++ more) i j
     ReducesToZero-append i j h k r = record {
       steps = r.steps;
-      below = HasImageBelow-append (lcm_place (lead_at (rows ++ more)) i j) r.steps
-          (subst (λ b. AllByRecursion (HasImageBelow rows b) r.steps) (sym (lcm_place-append i j h k)) r.below);
+      below = HasImageBelow-append ring.weights (lcm_place (lead_at (rows ++ more)) i j) r.steps
+          (subst (λ b. AllByRecursion (HasImageBelow ring.weights rows b) r.steps) (sym (lcm_place-append i j h k)) r.below);
       value = row_combination-more_rows r.steps (AllByRecursion-weaken _ _ (λ t below. below.0) r.steps r.below) ∙ r.value ∙ sym (s_vector-append i j h k);
     }
 
 -- the S-vector of a pair is a rest and a combination of rows whose images are less than the least common multiple
-pub record IsDividedPair (p : ℕ) (rows : List Vector) (i j : ℕ) (rest : List (Term Place)) : Type 0 where
+pub record IsDividedPair (ring : Ring) (rows : List Vector) (i j : ℕ) (rest : List (Term Place)) : Type 0 where
   pub steps : List (Term Place)
-  pub below : AllByRecursion (HasImageBelow rows (lcm_place (lead_at rows) i j)) steps
-  pub sum : add place_cmp p rest (row_combination p rows steps) ≡ s_vector p rows i j
+  pub below : AllByRecursion (HasImageBelow ring.weights rows (lcm_place (lead_at rows) i j)) steps
+  pub sum : add (place_cmp ring.weights) ring.modulus rest (row_combination ring rows steps) ≡ s_vector ring rows i j
 
-module _ (p : ℕ) (positive : 0 < p) (rows : List Vector) (i j : ℕ) where
+module _ (ring : Ring) (positive : IsRing ring) (rows : List Vector) (i j : ℕ) where
   -- no rest
-  pub ReducesToZero-divided : (rest : List (Term Place)) → IsDividedPair p rows i j rest → rest ≡ [] → ReducesToZero p rows i j
+  pub ReducesToZero-divided : (rest : List (Term Place)) → IsDividedPair ring rows i j rest → rest ≡ [] → ReducesToZero ring rows i j
   ReducesToZero-divided rest h none = record {
     steps = h.steps;
     below = h.below;
-    value = sym (add-nil_first place_cmp place_cmp_linear p positive (row_combination p rows h.steps) (IsCanonical-row_combination p positive rows h.steps))
-        ∙ ap (λ us. add place_cmp p us (row_combination p rows h.steps)) (sym none)
+    value = sym (add-nil_first (place_cmp ring.weights) (place_cmp_linear ring.weights) ring.modulus positive.modulus (row_combination ring rows h.steps) (IsCanonical-row_combination ring positive.modulus rows h.steps))
+        ∙ ap (λ us. add (place_cmp ring.weights) ring.modulus us (row_combination ring rows h.steps)) (sym none)
         ∙ h.sum;
   }
 
   -- a rest that is a multiple of a new row
-  pub ReducesToZero-new_row : (rest : List (Term Place)) → IsDividedPair p rows i j rest → i < length rows → j < length rows → (v : Vector) (x : ℕ) → rest ≡ multiple place_cmp place_product p (constant_term x) v.terms
-      → place_cmp (lead_place v.terms) (lcm_place (lead_at rows) i j) ≡ Less → ReducesToZero p (rows ++ v ∷ []) i j
+  pub ReducesToZero-new_row : (rest : List (Term Place)) → IsDividedPair ring rows i j rest → i < length rows → j < length rows → (v : Vector) (x : ℕ) → rest ≡ multiple (place_cmp ring.weights) place_product ring.modulus (constant_term x) v.terms
+      → place_cmp ring.weights (lead_place v.terms) (lcm_place (lead_at rows) i j) ≡ Less → ReducesToZero ring (rows ++ v ∷ []) i j
   ReducesToZero-new_row rest h i_in j_in v x is_multiple less = record {
     steps = h.steps ++ new ∷ [];
     below = AllByRecursion-append _ h.steps (new ∷ [])
-        (HasImageBelow-append rows (v ∷ []) (lcm_place (lead_at (rows ++ v ∷ [])) i j) h.steps (subst (λ b. AllByRecursion (HasImageBelow rows b) h.steps) (sym same_lcm) h.below))
+        (HasImageBelow-append rows (v ∷ []) ring.weights (lcm_place (lead_at (rows ++ v ∷ [])) i j) h.steps (subst (λ b. AllByRecursion (HasImageBelow ring.weights rows b) h.steps) (sym same_lcm) h.below))
         ((new_in, new_below), tt);
-    value = row_combination-append p positive (rows ++ v ∷ []) h.steps (new ∷ [])
+    value = row_combination-append ring positive.modulus (rows ++ v ∷ []) h.steps (new ∷ [])
         ∙ (λ n.
-        add place_cmp p (row_combination-more_rows rows (v ∷ []) p positive h.steps (AllByRecursion-weaken _ _ (λ t below. below.0) h.steps h.below) n)
-        ((row_combination-one p positive (rows ++ v ∷ []) new ∙ ap (multiple place_cmp place_product p (constant_term x)) new_row ∙ sym is_multiple) n))
-        ∙ add_comm place_cmp place_cmp_linear p positive (row_combination p rows h.steps) rest
+        add (place_cmp ring.weights) ring.modulus (row_combination-more_rows rows (v ∷ []) ring positive h.steps (AllByRecursion-weaken _ _ (λ t below. below.0) h.steps h.below) n)
+        ((row_combination-one ring positive.modulus (rows ++ v ∷ []) new ∙ ap (multiple (place_cmp ring.weights) place_product ring.modulus (constant_term x)) new_row ∙ sym is_multiple) n))
+        ∙ add_comm (place_cmp ring.weights) (place_cmp_linear ring.weights) ring.modulus positive.modulus (row_combination ring rows h.steps) rest
         ∙ h.sum
-        ∙ sym (s_vector-append rows (v ∷ []) p positive i j i_in j_in);
+        ∙ sym (s_vector-append rows (v ∷ []) ring positive i j i_in j_in);
   }
     where
       new : Term Place
@@ -114,5 +115,5 @@ module _ (p : ℕ) (positive : 0 < p) (rows : List Vector) (i j : ℕ) where
       new_row : row_at (rows ++ v ∷ []) (length rows) ≡ v.terms
       new_row = ap (row_at (rows ++ v ∷ [])) (omega arith) ∙ row_at-append_second rows (v ∷ []) 0
 
-      new_below : place_cmp (place_product one (lead_at (rows ++ v ∷ []) (length rows))) (lcm_place (lead_at (rows ++ v ∷ [])) i j) ≡ Less
-      new_below = (λ n. place_cmp ((place_product-one (lead_at (rows ++ v ∷ []) (length rows)) ∙ ap lead_place new_row) n) (same_lcm n)) ∙ less
+      new_below : place_cmp ring.weights (place_product one (lead_at (rows ++ v ∷ []) (length rows))) (lcm_place (lead_at (rows ++ v ∷ [])) i j) ≡ Less
+      new_below = (λ n. place_cmp ring.weights ((place_product-one (lead_at (rows ++ v ∷ []) (length rows)) ∙ ap lead_place new_row) n) (same_lcm n)) ∙ less

@@ -1,5 +1,6 @@
 -- The chain criterion over all pairs that a computation handled.
 use Rattle.std.proofs.Common.{◌⊎◌, ⊎_elim, inl, inr, ℕ, ◌<◌, List, [], ◌∷◌, sym, ◌∙◌, subst}
+use Rattle.sf_algebra.specs.Rings.{Ring, IsRing}
 use Rattle.sf_algebra.specs.Vectors.{Vector}
 use Rattle.sf_groebner.specs.Criterion.{HaveLeadsAtOnePosition, ReducesToZero, lcm_place, lead_at}
 use Rattle.sf_groebner.specs.Leads.{PlaceDivides}
@@ -44,6 +45,6 @@ module _ (rows : List Vector) (Good : ℕ → ℕ → Type 0)
   IsHandled-either handled h i j positions earlier = either_order handled i j positions (IsHandled-good handled h) earlier
 
 -- all pairs that a computation handled reduce to zero
-pub IsHandled-reduces : (p : ℕ) → 0 < p → (rows : List Vector) (handled : List (ℕ × ℕ)) → IsHandled (ReducesToZero p rows) rows handled
-    → (i j : ℕ) → HaveLeadsAtOnePosition rows i j → IsEarlierPair handled i j → ReducesToZero p rows i j
-IsHandled-reduces p positive rows = IsHandled-either rows (ReducesToZero p rows) (ReducesToZero-sym p positive rows) (ReducesToZero-chain p positive rows)
+pub IsHandled-reduces : (ring : Ring) → IsRing ring → (rows : List Vector) (handled : List (ℕ × ℕ)) → IsHandled (ReducesToZero ring rows) rows handled
+    → (i j : ℕ) → HaveLeadsAtOnePosition rows i j → IsEarlierPair handled i j → ReducesToZero ring rows i j
+IsHandled-reduces ring positive rows = IsHandled-either rows (ReducesToZero ring rows) (ReducesToZero-sym ring positive rows) (ReducesToZero-chain ring positive rows)

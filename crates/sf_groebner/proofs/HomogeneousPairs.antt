@@ -2,6 +2,7 @@
 use Rattle.std.proofs.Common.{◌≡◌, ℕ, ◌<◌, List, [], length, refl, sym, subst, arith, ℤ}
 use Rattle.std.specs.List.{AllByRecursion}
 use Rattle.sf_algebra.specs.Primes.{IsPrime}
+use Rattle.sf_algebra.specs.Rings.{Ring, IsRing, IsOverField}
 use Rattle.sf_algebra.specs.Terms.{Term}
 use Rattle.sf_algebra.specs.Vectors.{Place, Vector, term_degree, IsTermOfDegree, IsHomogeneous}
 use Rattle.sf_algebra.proofs.Degrees.{degrees_of}
@@ -9,6 +10,7 @@ use Rattle.sf_algebra.proofs.Divisors.{lcm-multiple}
 use Rattle.sf_algebra.proofs.Lists.{AllByRecursion-weaken}
 use Rattle.sf_groebner.specs.Criterion.{IsMonicRow, HaveLeadsAtOnePosition, ReducesToZero, lcm_place, lead_at, pair_terms, s_vector}
 use Rattle.sf_groebner.specs.Leads.{PlaceDivides}
+use Rattle.sf_algebra.proofs.Weights.{field_ring}
 use Rattle.sf_groebner.proofs.Divisions.{Division}
 use Rattle.sf_groebner.proofs.GrowingRows.{ReducesToZero-divided}
 use Rattle.sf_groebner.proofs.MonicRows.{IsMonic-shape}
@@ -16,7 +18,7 @@ use Rattle.sf_groebner.proofs.MonicVectors.{IsMonicVector, IsTermOfDegree-step, 
 use Rattle.sf_groebner.proofs.Pairs.{lcm_place-comm}
 use Rattle.sf_groebner.proofs.SVectors.{s_vector-below}
 
-module _ (p : ℕ) (prime : IsPrime p) (target : List ℤ) (rows : List Vector) (monic : AllByRecursion (IsMonicVector p target) rows)
+module _ (ring : Ring) (prime : IsOverField ring) (target : List ℤ) (rows : List Vector) (monic : AllByRecursion (IsMonicVector ring target) rows)
     (i j : ℕ) (i_in : i < length rows) (j_in : j < length rows) (positions : HaveLeadsAtOnePosition rows i j) where
   -- the least common multiple of the leads, with the coefficient 1
   abbrev pub pair_lcm : Term Place
@@ -24,7 +26,7 @@ module _ (p : ℕ) (prime : IsPrime p) (target : List ℤ) (rows : List Vector) 
 
   -- the degree of the S-vector
   abbrev pub pair_degree : ℤ
-  pair_degree = term_degree target pair_lcm
+  pair_degree = term_degree ring.weights target pair_lcm
 
   divides_first : PlaceDivides (lead_at rows i) pair_lcm.at
   divides_first = (refl, (lcm-multiple (lead_at rows i).monomial (lead_at rows j).monomial).0)
@@ -35,29 +37,29 @@ module _ (p : ℕ) (prime : IsPrime p) (target : List ℤ) (rows : List Vector) 
   same_lcm : lcm_place (lead_at rows) j i ≡ pair_lcm.at
   same_lcm = sym (lcm_place-comm (lead_at rows) i j positions)
 
-  monic_rows : AllByRecursion (IsMonicRow p) rows
+  monic_rows : AllByRecursion (IsMonicRow ring) rows
   monic_rows = AllByRecursion-weaken _ _ (λ v h. record { canonical = h.vector.canonical; monic = h.monic }) rows monic
 
   -- the lead of a row stands in one of the columns
   lead_inside : (lead_at rows i).position < length target
   lead_inside =
-      let row = monic_row p target rows monic i i_in in
-      (subst (IsHomogeneous target _) (IsMonic-shape _ row.monic) row.vector.homogeneous).0.0
+      let row = monic_row ring target rows monic i i_in in
+      (subst (IsHomogeneous ring.weights target _) (IsMonic-shape _ row.monic) row.vector.homogeneous).0.0
 
-  pub pair_terms-homogeneous : IsHomogeneous (degrees_of rows) pair_degree (pair_terms p (lead_at rows) i j)
+  pub pair_terms-homogeneous : IsHomogeneous ring.weights (degrees_of rows) pair_degree (pair_terms ring.modulus (lead_at rows) i j)
   pair_terms-homogeneous = (
-    IsTermOfDegree-step p target rows monic i i_in pair_degree pair_lcm divides_first (lead_inside, refl),
+    IsTermOfDegree-step ring target rows monic i i_in pair_degree pair_lcm divides_first (lead_inside, refl),
     (
-      IsTermOfDegree-step p target rows monic j j_in pair_degree (record { at = lcm_place (lead_at rows) j i; coefficient = 1 }) divides_second
-          (subst (λ (k : Place). IsTermOfDegree target pair_degree (record { at = k; coefficient = 1 })) (sym same_lcm) (lead_inside, refl)),
+      IsTermOfDegree-step ring target rows monic j j_in pair_degree (record { at = lcm_place (lead_at rows) j i; coefficient = 1 }) divides_second
+          (subst (λ (k : Place). IsTermOfDegree ring.weights target pair_degree (record { at = k; coefficient = 1 })) (sym same_lcm) (lead_inside, refl)),
       tt,
     ),
   )
 
   -- a division without a rest reduces the pair to zero
-  pub ReducesToZero-division : (e : Division p target rows (record { degree = pair_degree; terms = s_vector p rows i j })) → e.rest ≡ [] → ReducesToZero p rows i j
+  pub ReducesToZero-division : (e : Division ring target rows (record { degree = pair_degree; terms = s_vector ring rows i j })) → e.rest ≡ [] → ReducesToZero ring rows i j
   ReducesToZero-division e none =
-      let positive : 0 < p = omega (arith, prime.above_one) in
-      ReducesToZero-divided p positive rows i j e.rest
-      (record { steps = e.quotients; below = (e.below pair_lcm.at (s_vector-below p positive rows monic_rows i j i_in j_in positions)).1; sum = e.sum })
+      let positive : IsRing ring = field_ring prime in
+      ReducesToZero-divided ring positive rows i j e.rest
+      (record { steps = e.quotients; below = (e.below pair_lcm.at (s_vector-below ring positive rows monic_rows i j i_in j_in positions)).1; sum = e.sum })
       none

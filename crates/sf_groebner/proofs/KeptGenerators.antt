@@ -2,6 +2,7 @@
 use Rattle.std.proofs.Common.{◌≡◌, inl, inr, ℕ, zero, suc, ◌+◌, ◌<◌, List, [], ◌∷◌, ◌++◌, length, refl, sym, ◌∙◌, ap, subst, ℤ, arith}
 use Rattle.std.proofs.lemmas.List.{length-append, length-map, map-append}
 use Rattle.sf_algebra.specs.MatrixOperations.{row_at, row_combination, part_terms}
+use Rattle.sf_algebra.specs.Rings.{Ring, IsRing}
 use Rattle.sf_algebra.specs.Sums.{add}
 use Rattle.sf_algebra.specs.Terms.{Term}
 use Rattle.sf_algebra.specs.Vectors.{Place, Vector, place_cmp, IsVector}
@@ -20,16 +21,16 @@ use Rattle.sf_groebner.proofs.GraphParts.{IsWithin-coefficients}
 use Rattle.sf_groebner.proofs.PairedVectors.{pair_terms, pair_terms-parts, IsVector-pair}
 use Rattle.sf_groebner.proofs.SumsAndMultiples.{HasSumsAndMultiples, row_matrix, row_combination-scaled}
 
-module _ (p : ℕ) (target : List ℤ) (B : Vector → Type 0) where
+module _ (ring : Ring) (target : List ℤ) (B : Vector → Type 0) where
   -- the terms ts are those of a sum of a vector of B and a combination of the rows, all of degree d
   pub record IsSumAt (rows : List Vector) (d : ℤ) (ts : List (Term Place)) : Type 0 where
     pub first : List (Term Place)
     pub coefficients : List (Term Place)
     pub inside : B (record { degree = d; terms = first })
-    pub vector : IsVector p (degrees_of rows) (record { degree = d; terms = coefficients })
-    pub sum : add place_cmp p first (row_combination p rows coefficients) ≡ ts
+    pub vector : IsVector ring (degrees_of rows) (record { degree = d; terms = coefficients })
+    pub sum : add (place_cmp ring.weights) ring.modulus first (row_combination ring rows coefficients) ≡ ts
 
-  pub IsSumAt-from : (rows : List Vector) (v : Vector) → IsInSum (matrix_of p target rows) B v → IsSumAt rows v.degree v.terms
+  pub IsSumAt-from : (rows : List Vector) (v : Vector) → IsInSum (matrix_of ring target rows) B v → IsSumAt rows v.degree v.terms
   IsSumAt-from rows v h =
       let c = (h.in_span).0 in
       let degree : c.degree ≡ v.degree = ap (λ x. x.degree) (h.in_span).2 ∙ h.second_degree in
@@ -37,14 +38,14 @@ module _ (p : ℕ) (target : List ℤ) (B : Vector → Type 0) where
         first = h.first.terms;
         coefficients = c.terms;
         inside = subst (λ d. B (record { degree = d; terms = h.first.terms })) h.first_degree h.in_module;
-        vector = subst (λ d. IsVector p (degrees_of rows) (record { degree = d; terms = c.terms })) degree (h.in_span).1;
-        sum = ap (λ x. add place_cmp p h.first.terms x.terms) (h.in_span).2 ∙ h.sum;
+        vector = subst (λ d. IsVector ring (degrees_of rows) (record { degree = d; terms = c.terms })) degree (h.in_span).1;
+        sum = ap (λ x. add (place_cmp ring.weights) ring.modulus h.first.terms x.terms) (h.in_span).2 ∙ h.sum;
       }
 
-  pub IsSumAt-to : (rows : List Vector) (v : Vector) → IsSumAt rows v.degree v.terms → IsInSum (matrix_of p target rows) B v
+  pub IsSumAt-to : (rows : List Vector) (v : Vector) → IsSumAt rows v.degree v.terms → IsInSum (matrix_of ring target rows) B v
   IsSumAt-to rows v h = record {
     first = record { degree = v.degree; terms = h.first };
-    second = record { degree = v.degree; terms = row_combination p rows h.coefficients };
+    second = record { degree = v.degree; terms = row_combination ring rows h.coefficients };
     in_module = h.inside;
     in_span = (record { degree = v.degree; terms = h.coefficients }, h.vector, refl);
     first_degree = refl;
@@ -52,73 +53,73 @@ module _ (p : ℕ) (target : List ℤ) (B : Vector → Type 0) where
     sum = h.sum;
   }
 
-  module _ (positive : 0 < p) where
-    add-left : (x l y : List (Term Place)) → add place_cmp p x (add place_cmp p l y) ≡ add place_cmp p l (add place_cmp p x y)
+  module _ (positive : IsRing ring) where
+    add-left : (x l y : List (Term Place)) → add (place_cmp ring.weights) ring.modulus x (add (place_cmp ring.weights) ring.modulus l y) ≡ add (place_cmp ring.weights) ring.modulus l (add (place_cmp ring.weights) ring.modulus x y)
     add-left x l y =
-        sym (add_assoc place_cmp place_cmp_linear p positive x l y)
-        ∙ ap (λ z. add place_cmp p z y) (add_comm place_cmp place_cmp_linear p positive x l)
-        ∙ add_assoc place_cmp place_cmp_linear p positive l x y
+        sym (add_assoc (place_cmp ring.weights) (place_cmp_linear ring.weights) ring.modulus positive.modulus x l y)
+        ∙ ap (λ z. add (place_cmp ring.weights) ring.modulus z y) (add_comm (place_cmp ring.weights) (place_cmp_linear ring.weights) ring.modulus positive.modulus x l)
+        ∙ add_assoc (place_cmp ring.weights) (place_cmp_linear ring.weights) ring.modulus positive.modulus l x y
 
-    add-regroup : (a x l y : List (Term Place)) → add place_cmp p (add place_cmp p a x) (add place_cmp p l y) ≡ add place_cmp p a (add place_cmp p l (add place_cmp p x y))
-    add-regroup a x l y = add_assoc place_cmp place_cmp_linear p positive a x (add place_cmp p l y) ∙ ap (add place_cmp p a) (add-left x l y)
+    add-regroup : (a x l y : List (Term Place)) → add (place_cmp ring.weights) ring.modulus (add (place_cmp ring.weights) ring.modulus a x) (add (place_cmp ring.weights) ring.modulus l y) ≡ add (place_cmp ring.weights) ring.modulus a (add (place_cmp ring.weights) ring.modulus l (add (place_cmp ring.weights) ring.modulus x y))
+    add-regroup a x l y = add_assoc (place_cmp ring.weights) (place_cmp_linear ring.weights) ring.modulus positive.modulus a x (add (place_cmp ring.weights) ring.modulus l y) ∙ ap (add (place_cmp ring.weights) ring.modulus a) (add-left x l y)
 
     -- coefficients of the rows and of one row more
     module _ (rows : List Vector) (v : Vector) where
       pushed-degrees : degrees_of (rows ++ v ∷ []) ≡ degrees_of rows ++ v.degree ∷ []
       pushed-degrees = map-append (λ (x : Vector). x.degree) rows (v ∷ [])
 
-      push : (d : ℤ) (c e : List (Term Place)) → IsVector p (degrees_of rows) (record { degree = d; terms = c }) → IsVector p (v.degree ∷ []) (record { degree = d; terms = e })
-          → IsVector p (degrees_of (rows ++ v ∷ [])) (record { degree = d; terms = pair_terms (length rows) c e })
+      push : (d : ℤ) (c e : List (Term Place)) → IsVector ring (degrees_of rows) (record { degree = d; terms = c }) → IsVector ring (v.degree ∷ []) (record { degree = d; terms = e })
+          → IsVector ring (degrees_of (rows ++ v ∷ [])) (record { degree = d; terms = pair_terms (length rows) c e })
       push d c e h k =
-          subst (λ n. IsVector p (degrees_of (rows ++ v ∷ [])) (record { degree = d; terms = pair_terms n c e })) (length-map rows (λ (x : Vector). x.degree))
-          (subst (λ ds. IsVector p ds (record { degree = d; terms = pair_terms (length (degrees_of rows)) c e })) (sym pushed-degrees)
-          (IsVector-pair (degrees_of rows) (v.degree ∷ []) d p c e h k))
+          subst (λ n. IsVector ring (degrees_of (rows ++ v ∷ [])) (record { degree = d; terms = pair_terms n c e })) (length-map rows (λ (x : Vector). x.degree))
+          (subst (λ ds. IsVector ring ds (record { degree = d; terms = pair_terms (length (degrees_of rows)) c e })) (sym pushed-degrees)
+          (IsVector-pair (degrees_of rows) (v.degree ∷ []) d ring c e h k))
 
-      row_combination-push_row : (d : ℤ) (c e : List (Term Place)) → IsVector p (degrees_of rows) (record { degree = d; terms = c })
-          → row_combination p (rows ++ v ∷ []) (pair_terms (length rows) c e) ≡ add place_cmp p (row_combination p rows c) (row_combination p (v ∷ []) e)
-      row_combination-push_row d c e h = row_combination-stacked p positive rows (v ∷ []) c e (IsWithin-coefficients (matrix_of p target rows) (record { degree = d; terms = c }) h)
+      row_combination-push_row : (d : ℤ) (c e : List (Term Place)) → IsVector ring (degrees_of rows) (record { degree = d; terms = c })
+          → row_combination ring (rows ++ v ∷ []) (pair_terms (length rows) c e) ≡ add (place_cmp ring.weights) ring.modulus (row_combination ring rows c) (row_combination ring (v ∷ []) e)
+      row_combination-push_row d c e h = row_combination-stacked ring positive.modulus rows (v ∷ []) c e (IsWithin-coefficients (matrix_of ring target rows) (record { degree = d; terms = c }) h)
 
       -- coefficients of the rows and one more, taken apart
       pub record IsPushed (d : ℤ) (c : List (Term Place)) : Type 0 where
         pub front : List (Term Place)
         pub last : List (Term Place)
-        pub front_vector : IsVector p (degrees_of rows) (record { degree = d; terms = front })
-        pub last_vector : IsVector p (v.degree ∷ []) (record { degree = d; terms = last })
-        pub value : row_combination p (rows ++ v ∷ []) c ≡ add place_cmp p (row_combination p rows front) (row_combination p (v ∷ []) last)
+        pub front_vector : IsVector ring (degrees_of rows) (record { degree = d; terms = front })
+        pub last_vector : IsVector ring (v.degree ∷ []) (record { degree = d; terms = last })
+        pub value : row_combination ring (rows ++ v ∷ []) c ≡ add (place_cmp ring.weights) ring.modulus (row_combination ring rows front) (row_combination ring (v ∷ []) last)
 
-      pushed : (d : ℤ) (c : List (Term Place)) → IsVector p (degrees_of (rows ++ v ∷ [])) (record { degree = d; terms = c }) → IsPushed d c
+      pushed : (d : ℤ) (c : List (Term Place)) → IsVector ring (degrees_of (rows ++ v ∷ [])) (record { degree = d; terms = c }) → IsPushed d c
       pushed d c h =
           let n = length rows in
           let w : Vector = record { degree = d; terms = c } in
           let size : length (rows ++ v ∷ []) ≡ n + 1 = rw length-append refl in
-          let within : IsWithin (n + 1) c = subst (λ k. IsWithin k c) size (IsWithin-coefficients (matrix_of p target (rows ++ v ∷ [])) w h) in
-          let vector : IsVector p (degrees_of rows ++ v.degree ∷ []) w = subst (λ ds. IsVector p ds w) pushed-degrees h in
-          let front = subst (λ ds. IsVector p ds (record { degree = d; terms = part_terms 0 n c }))
+          let within : IsWithin (n + 1) c = subst (λ k. IsWithin k c) size (IsWithin-coefficients (matrix_of ring target (rows ++ v ∷ [])) w h) in
+          let vector : IsVector ring (degrees_of rows ++ v.degree ∷ []) w = subst (λ ds. IsVector ring ds w) pushed-degrees h in
+          let front = subst (λ ds. IsVector ring ds (record { degree = d; terms = part_terms 0 n c }))
           (slice_range-first (degrees_of rows) (v.degree ∷ []) n (length-map rows (λ (x : Vector). x.degree)))
-          (IsVector-part_terms p (degrees_of rows ++ v.degree ∷ []) 0 n w vector) in
-          let last = subst (λ ds. IsVector p ds (record { degree = d; terms = part_terms n (n + 1) c }))
+          (IsVector-part_terms ring (degrees_of rows ++ v.degree ∷ []) 0 n w vector) in
+          let last = subst (λ ds. IsVector ring ds (record { degree = d; terms = part_terms n (n + 1) c }))
           (slice_range-second (degrees_of rows) (v.degree ∷ []) n (n + 1) (length-map rows (λ (x : Vector). x.degree)) (omega arith))
-          (IsVector-part_terms p (degrees_of rows ++ v.degree ∷ []) n (n + 1) w vector) in
+          (IsVector-part_terms ring (degrees_of rows ++ v.degree ∷ []) n (n + 1) w vector) in
           record {
             front = part_terms 0 n c;
             last = part_terms n (n + 1) c;
             front_vector = front;
             last_vector = last;
-            value = ap (row_combination p (rows ++ v ∷ [])) (sym (pair_terms-parts n 1 c h.canonical.descending within))
+            value = ap (row_combination ring (rows ++ v ∷ [])) (sym (pair_terms-parts ring.weights n 1 c h.canonical.descending within))
                 ∙ row_combination-push_row d (part_terms 0 n c) (part_terms n (n + 1) c) front;
           }
 
     -- one row more
-    IsSumAt-push : (rows : List Vector) (v : Vector) (d : ℤ) (ts : List (Term Place)) → IsSumAt rows d ts → (e : List (Term Place)) → IsVector p (v.degree ∷ []) (record { degree = d; terms = e })
-        → IsSumAt (rows ++ v ∷ []) d (add place_cmp p ts (row_combination p (v ∷ []) e))
+    IsSumAt-push : (rows : List Vector) (v : Vector) (d : ℤ) (ts : List (Term Place)) → IsSumAt rows d ts → (e : List (Term Place)) → IsVector ring (v.degree ∷ []) (record { degree = d; terms = e })
+        → IsSumAt (rows ++ v ∷ []) d (add (place_cmp ring.weights) ring.modulus ts (row_combination ring (v ∷ []) e))
     IsSumAt-push rows v d ts h e k = record {
       first = h.first;
       coefficients = pair_terms (length rows) h.coefficients e;
       inside = h.inside;
       vector = push rows v d h.coefficients e h.vector k;
-      sum = ap (add place_cmp p h.first) (row_combination-push_row rows v d h.coefficients e h.vector)
-          ∙ sym (add_assoc place_cmp place_cmp_linear p positive h.first (row_combination p rows h.coefficients) (row_combination p (v ∷ []) e))
-          ∙ ap (λ us. add place_cmp p us (row_combination p (v ∷ []) e)) h.sum;
+      sum = ap (add (place_cmp ring.weights) ring.modulus h.first) (row_combination-push_row rows v d h.coefficients e h.vector)
+          ∙ sym (add_assoc (place_cmp ring.weights) (place_cmp_linear ring.weights) ring.modulus positive.modulus h.first (row_combination ring rows h.coefficients) (row_combination ring (v ∷ []) e))
+          ∙ ap (λ us. add (place_cmp ring.weights) ring.modulus us (row_combination ring (v ∷ []) e)) h.sum;
     }
 
     -- where the sums of one list are sums of another, they are so with one row more
@@ -126,11 +127,11 @@ module _ (p : ℕ) (target : List ℤ) (B : Vector → Type 0) where
         → (d : ℤ) (ts : List (Term Place)) → IsSumAt (rows ++ v ∷ []) d ts → IsSumAt (others ++ v ∷ []) d ts
     IsSumAt-both rows others v f d ts h =
         let c = pushed rows v d h.coefficients h.vector in
-        let near : IsSumAt rows d (add place_cmp p h.first (row_combination p rows c.front)) =
+        let near : IsSumAt rows d (add (place_cmp ring.weights) ring.modulus h.first (row_combination ring rows c.front)) =
         record { first = h.first; coefficients = c.front; inside = h.inside; vector = c.front_vector; sum = refl } in
         subst (IsSumAt (others ++ v ∷ []) d)
-        (add_assoc place_cmp place_cmp_linear p positive h.first (row_combination p rows c.front) (row_combination p (v ∷ []) c.last)
-        ∙ ap (add place_cmp p h.first) (sym c.value) ∙ h.sum)
+        (add_assoc (place_cmp ring.weights) (place_cmp_linear ring.weights) ring.modulus positive.modulus h.first (row_combination ring rows c.front) (row_combination ring (v ∷ []) c.last)
+        ∙ ap (add (place_cmp ring.weights) ring.modulus h.first) (sym c.value) ∙ h.sum)
         (IsSumAt-push others v d _ (f d _ near) c.last c.last_vector)
 
     IsSumAt-more : (rows : List Vector) (v : Vector) (d : ℤ) (ts : List (Term Place)) → IsSumAt rows d ts → IsSumAt (rows ++ v ∷ []) d ts
@@ -138,14 +139,14 @@ module _ (p : ℕ) (target : List ℤ) (B : Vector → Type 0) where
       first = h.first;
       coefficients = pair_terms (length rows) h.coefficients [];
       inside = h.inside;
-      vector = push rows v d h.coefficients [] h.vector (IsVector-nil p (v.degree ∷ []) d);
-      sum = ap (add place_cmp p h.first) (row_combination-push_row rows v d h.coefficients [] h.vector
-          ∙ ap (add place_cmp p (row_combination p rows h.coefficients)) (row_combination-nil p positive (v ∷ []))
-          ∙ add-nil place_cmp place_cmp_linear p positive (row_combination p rows h.coefficients) (IsCanonical-row_combination p positive rows h.coefficients))
+      vector = push rows v d h.coefficients [] h.vector (IsVector-nil ring (v.degree ∷ []) d);
+      sum = ap (add (place_cmp ring.weights) ring.modulus h.first) (row_combination-push_row rows v d h.coefficients [] h.vector
+          ∙ ap (add (place_cmp ring.weights) ring.modulus (row_combination ring rows h.coefficients)) (row_combination-nil ring positive.modulus (v ∷ []))
+          ∙ add-nil (place_cmp ring.weights) (place_cmp_linear ring.weights) ring.modulus positive.modulus (row_combination ring rows h.coefficients) (IsCanonical-row_combination ring positive.modulus rows h.coefficients))
           ∙ h.sum;
     }
 
-    module _ (closed : HasSumsAndMultiples p B) where
+    module _ (closed : HasSumsAndMultiples ring B) where
       -- a row that is itself such a sum adds nothing
       IsSumAt-absorb : (rows : List Vector) (v : Vector) → IsSumAt rows v.degree v.terms → (d : ℤ) (ts : List (Term Place)) → IsSumAt (rows ++ v ∷ []) d ts → IsSumAt rows d ts
       IsSumAt-absorb rows v k d ts h =
@@ -153,40 +154,40 @@ module _ (p : ℕ) (target : List ℤ) (B : Vector → Type 0) where
           let last : Vector = record { degree = d; terms = c.last } in
           let b : Vector = record { degree = v.degree; terms = k.first } in
           let e : Vector = record { degree = v.degree; terms = k.coefficients } in
-          let x = row_combination p (b ∷ []) c.last in
-          let y = row_combination p (e ∷ []) c.last in
-          let row : row_combination p (v ∷ []) c.last ≡ add place_cmp p x (row_combination p rows y) =
-          row_combination-add_rows p positive (v ∷ []) (b ∷ []) (record { degree = v.degree; terms = row_combination p rows k.coefficients } ∷ []) (rows_agree k) c.last
-          ∙ ap (add place_cmp p x) (row_combination-scaled (matrix_of p target rows) positive e last) in
+          let x = row_combination ring (b ∷ []) c.last in
+          let y = row_combination ring (e ∷ []) c.last in
+          let row : row_combination ring (v ∷ []) c.last ≡ add (place_cmp ring.weights) ring.modulus x (row_combination ring rows y) =
+          row_combination-add_rows ring positive.modulus (v ∷ []) (b ∷ []) (record { degree = v.degree; terms = row_combination ring rows k.coefficients } ∷ []) (rows_agree k) c.last
+          ∙ ap (add (place_cmp ring.weights) ring.modulus x) (row_combination-scaled (matrix_of ring target rows) positive e last) in
           record {
-            first = add place_cmp p h.first x;
-            coefficients = add place_cmp p c.front y;
+            first = add (place_cmp ring.weights) ring.modulus h.first x;
+            coefficients = add (place_cmp ring.weights) ring.modulus c.front y;
             inside = closed.sums d h.first x h.inside (closed.multiples b last k.inside c.last_vector);
-            vector = IsVector-add p (degrees_of rows) positive d c.front y c.front_vector (IsVector-row_combination (row_matrix p (degrees_of rows) e) positive (k.vector, tt) last c.last_vector);
-            sum = ap (add place_cmp p (add place_cmp p h.first x)) (row_combination-add p positive rows c.front y)
-                ∙ add-regroup h.first x (row_combination p rows c.front) (row_combination p rows y)
-                ∙ ap (λ us. add place_cmp p h.first (add place_cmp p (row_combination p rows c.front) us)) (sym row)
-                ∙ ap (add place_cmp p h.first) (sym c.value)
+            vector = IsVector-add ring (degrees_of rows) positive.modulus d c.front y c.front_vector (IsVector-row_combination (row_matrix ring (degrees_of rows) e) positive.modulus (k.vector, tt) last c.last_vector);
+            sum = ap (add (place_cmp ring.weights) ring.modulus (add (place_cmp ring.weights) ring.modulus h.first x)) (row_combination-add ring positive.modulus rows c.front y)
+                ∙ add-regroup h.first x (row_combination ring rows c.front) (row_combination ring rows y)
+                ∙ ap (λ us. add (place_cmp ring.weights) ring.modulus h.first (add (place_cmp ring.weights) ring.modulus (row_combination ring rows c.front) us)) (sym row)
+                ∙ ap (add (place_cmp ring.weights) ring.modulus h.first) (sym c.value)
                 ∙ h.sum;
           }
         where
           rows_agree : (k : IsSumAt rows v.degree v.terms) (i : ℕ)
-              → row_at (v ∷ []) i ≡ add place_cmp p (row_at (record { degree = v.degree; terms = k.first } ∷ []) i) (row_at (record { degree = v.degree; terms = row_combination p rows k.coefficients } ∷ []) i)
+              → row_at (v ∷ []) i ≡ add (place_cmp ring.weights) ring.modulus (row_at (record { degree = v.degree; terms = k.first } ∷ []) i) (row_at (record { degree = v.degree; terms = row_combination ring rows k.coefficients } ∷ []) i)
           rows_agree k zero = sym k.sum
-          rows_agree k (suc i) = sym (add-nil place_cmp place_cmp_linear p positive [] (record { descending = tt; residues = tt }))
+          rows_agree k (suc i) = sym (add-nil (place_cmp ring.weights) (place_cmp_linear ring.weights) ring.modulus positive.modulus [] (record { descending = tt; residues = tt }))
 
       -- two lists of rows have the same sums with B
       pub record HasSameSums (rows others : List Vector) : Type 0 where
         pub to : (d : ℤ) (ts : List (Term Place)) → IsSumAt rows d ts → IsSumAt others d ts
         pub from : (d : ℤ) (ts : List (Term Place)) → IsSumAt others d ts → IsSumAt rows d ts
 
-      same_in : (rows others : List Vector) → HasSameSums rows others → (v : Vector) → IsInSum (matrix_of p target rows) B v → IsInSum (matrix_of p target others) B v
+      same_in : (rows others : List Vector) → HasSameSums rows others → (v : Vector) → IsInSum (matrix_of ring target rows) B v → IsInSum (matrix_of ring target others) B v
       same_in rows others h v k = IsSumAt-to others v (h.to v.degree v.terms (IsSumAt-from rows v k))
 
       back : (rows others : List Vector) → HasSameSums rows others → HasSameSums others rows
       back rows others h = record { to = h.from; from = h.to }
 
-      pub left_out : (rows others : List Vector) (v : Vector) → HasSameSums rows others → IsInSum (matrix_of p target rows) B v → HasSameSums (rows ++ v ∷ []) others
+      pub left_out : (rows others : List Vector) (v : Vector) → HasSameSums rows others → IsInSum (matrix_of ring target rows) B v → HasSameSums (rows ++ v ∷ []) others
       left_out rows others v h k = record {
         to = λ d ts s. h.to d ts (IsSumAt-absorb rows v (IsSumAt-from rows v k) d ts s);
         from = λ d ts s. IsSumAt-more rows v d ts (h.from d ts s);
@@ -195,7 +196,7 @@ module _ (p : ℕ) (target : List ℤ) (B : Vector → Type 0) where
       pub taken_in : (rows others : List Vector) (v : Vector) → HasSameSums rows others → HasSameSums (rows ++ v ∷ []) (others ++ v ∷ [])
       taken_in rows others v h = record { to = IsSumAt-both rows others v h.to; from = IsSumAt-both others rows v h.from }
 
-      chosen_from_kept : (earlier before vs kept : List Vector) → HasSameSums earlier before → AreKept p target B earlier vs kept → AreChosen p target B before vs kept
+      chosen_from_kept : (earlier before vs kept : List Vector) → HasSameSums earlier before → AreKept ring target B earlier vs kept → AreChosen ring target B before vs kept
       chosen_from_kept earlier before [] kept h k = k
       chosen_from_kept earlier before (v ∷ vs) kept h (inl k) =
           inl (same_in earlier before h v k.0, chosen_from_kept (earlier ++ v ∷ []) before vs kept (left_out earlier before v h k.0) k.1)
@@ -204,7 +205,7 @@ module _ (p : ℕ) (target : List ℤ) (B : Vector → Type 0) where
         (k.1.0, k.1.1, chosen_from_kept (earlier ++ v ∷ []) (before ++ v ∷ []) vs k.1.0 (taken_in earlier before v h) k.1.2),
       )
 
-      kept_from_chosen : (earlier before vs kept : List Vector) → HasSameSums earlier before → AreChosen p target B before vs kept → AreKept p target B earlier vs kept
+      kept_from_chosen : (earlier before vs kept : List Vector) → HasSameSums earlier before → AreChosen ring target B before vs kept → AreKept ring target B earlier vs kept
       kept_from_chosen earlier before [] kept h k = k
       kept_from_chosen earlier before (v ∷ vs) kept h (inl k) =
           let inside = same_in before earlier (back earlier before h) v k.0 in
@@ -214,7 +215,7 @@ module _ (p : ℕ) (target : List ℤ) (B : Vector → Type 0) where
         (k.1.0, k.1.1, kept_from_chosen (earlier ++ v ∷ []) (before ++ v ∷ []) vs k.1.0 (taken_in earlier before v h) k.1.2),
       )
 
-      pub AreKept-chosen : (vs kept : List Vector) → (AreKept p target B [] vs kept → AreChosen p target B [] vs kept) × (AreChosen p target B [] vs kept → AreKept p target B [] vs kept)
+      pub AreKept-chosen : (vs kept : List Vector) → (AreKept ring target B [] vs kept → AreChosen ring target B [] vs kept) × (AreChosen ring target B [] vs kept → AreKept ring target B [] vs kept)
       AreKept-chosen vs kept =
           let same : HasSameSums [] [] = record { to = λ d ts h. h; from = λ d ts h. h } in
           (chosen_from_kept [] [] vs kept same, kept_from_chosen [] [] vs kept same)

@@ -2,6 +2,7 @@
 use Rattle.std.proofs.Common.{◌≡◌, ◌||◌, ◌<◌, false, List, [], ◌∷◌, inr, refl, sym, ◌∙◌, ap, subst, arith, pos}
 use Rattle.std.proofs.lemmas.Int.{ints}
 use Rattle.sf_algebra.specs.MatrixOperations.{identity, unit_vector}
+use Rattle.sf_algebra.specs.Rings.{plain, ones}
 use Rattle.sf_algebra.specs.Sums.{add}
 use Rattle.sf_algebra.specs.Terms.{Term}
 use Rattle.sf_algebra.specs.Vectors.{Place, Vector, IsVector, place_cmp}
@@ -36,11 +37,11 @@ unit_divides (t ∷ ts) h =
     let first : t.at.position < 1 = h.0 in
     ap (λ d. d || false) ((Decides-place_divides (unit_term 0).at t.at).1 (omega (arith, first), (omega arith, omega arith, omega arith, omega arith, omega arith, omega arith)))
 
-all_vectors : IsReducedBasis (IsAny 101 (pos 0 ∷ [])) (unit_row ∷ [])
+all_vectors : IsReducedBasis ones (IsAny (plain 101) (pos 0 ∷ [])) (unit_row ∷ [])
 all_vectors = record {
   inside = search (arith, ints);
   monic = (refl, tt);
-  complete = λ v h. unit_divides v.terms (IsWithin-IsVector 101 (pos 0 ∷ []) v h);
+  complete = λ v h. unit_divides v.terms (IsWithin-IsVector (plain 101) (pos 0 ∷ []) v h);
   apart = (tt, tt);
   sorted = (tt, tt);
 }
@@ -49,32 +50,32 @@ all_vectors = record {
 no_unit : (ts : List (Term Place)) → HasDividedLead (x_row ∷ y_row ∷ []) ts → ts ≡ unit_row.terms → ⊥
 no_unit ts h e = let divided : HasDividedLead (x_row ∷ y_row ∷ []) unit_row.terms = subst (HasDividedLead (x_row ∷ y_row ∷ [])) e h in cc
 
-unit_needed : IsInSum (matrix_of 101 (pos 0 ∷ []) []) (InSpan two_variables) unit_row → ⊥
+unit_needed : IsInSum (matrix_of (plain 101) (pos 0 ∷ []) []) (InSpan two_variables) unit_row → ⊥
 unit_needed h =
     no_unit h.first.terms (variables-span.complete h.first h.in_module)
-    (sym (add-nil place_cmp place_cmp_linear 101 (omega arith) h.first.terms ((span_module two_variables (omega arith) variables-matrix).vectors h.first h.in_module).canonical)
-    ∙ ap (add place_cmp 101 h.first.terms) (sym (span-no_rows 101 (omega arith) (pos 0 ∷ []) h.second h.in_span))
+    (sym (add-nil (place_cmp ones) (place_cmp_linear ones) 101 (omega arith) h.first.terms ((span_module two_variables (omega arith) variables-matrix).vectors h.first h.in_module).canonical)
+    ∙ ap (add (place_cmp ones) 101 h.first.terms) (sym (span-no_rows (plain 101) (omega arith) (pos 0 ∷ []) h.second h.in_span))
     ∙ h.sum)
 
-generators : AreMinimal 101 (pos 0 ∷ []) (IsAny 101 (pos 0 ∷ [])) (InSpan two_variables) (unit_row ∷ [])
+generators : AreMinimal (plain 101) (pos 0 ∷ []) (IsAny (plain 101) (pos 0 ∷ [])) (InSpan two_variables) (unit_row ∷ [])
 generators = record { basis = unit_row ∷ []; reduced = all_vectors; kept = inr (unit_needed, ([], refl, refl)) }
 
 -- a relation of the unit vector is a vector of the span
-unit_combined : (c : Vector) → IsVector 101 (pos 0 ∷ []) c → combined (identity 101 (pos 0 ∷ [])) c ≡ c
-unit_combined c h = λ i. record { degree = c.degree; terms = row_combination-identity 101 (omega arith) (pos 0 ∷ []) c h i }
+unit_combined : (c : Vector) → IsVector (plain 101) (pos 0 ∷ []) c → combined (identity (plain 101) (pos 0 ∷ [])) c ≡ c
+unit_combined c h = λ i. record { degree = c.degree; terms = row_combination-identity (plain 101) (omega arith) (pos 0 ∷ []) c h i }
 
-relation_from_span : (v : Vector) → InSpan two_variables v → IsRelation (identity 101 (pos 0 ∷ [])) (InSpan two_variables) v
+relation_from_span : (v : Vector) → InSpan two_variables v → IsRelation (identity (plain 101) (pos 0 ∷ [])) (InSpan two_variables) v
 relation_from_span v h =
     let vector = (span_module two_variables (omega arith) variables-matrix).vectors v h in
     record { coefficients = vector; inside = subst (InSpan two_variables) (sym (unit_combined v vector)) h }
 
-span_from_relation : (v : Vector) → IsRelation (identity 101 (pos 0 ∷ [])) (InSpan two_variables) v → InSpan two_variables v
+span_from_relation : (v : Vector) → IsRelation (identity (plain 101) (pos 0 ∷ [])) (InSpan two_variables) v → InSpan two_variables v
 span_from_relation v h = subst (InSpan two_variables) (unit_combined v h.coefficients) h.inside
 
-relations : AreMinimal 101 (pos 0 ∷ []) (IsRelation (identity 101 (pos 0 ∷ [])) (InSpan two_variables)) IsZero (x_row ∷ y_row ∷ [])
+relations : AreMinimal (plain 101) (pos 0 ∷ []) (IsRelation (identity (plain 101) (pos 0 ∷ [])) (InSpan two_variables)) IsZero (x_row ∷ y_row ∷ [])
 relations = record {
   basis = x_row ∷ y_row ∷ [];
-  reduced = IsReducedBasis-same (InSpan two_variables) (IsRelation (identity 101 (pos 0 ∷ [])) (InSpan two_variables)) relation_from_span span_from_relation (x_row ∷ y_row ∷ []) variables-span;
+  reduced = IsReducedBasis-same ones (InSpan two_variables) (IsRelation (identity (plain 101) (pos 0 ∷ [])) (InSpan two_variables)) relation_from_span span_from_relation (x_row ∷ y_row ∷ []) variables-span;
   kept = variables-kept;
 }
 
@@ -91,7 +92,7 @@ koszul-cokernel = record {
 pub refuses_no_cokernel : RefusesNoCokernel
 refuses_no_cokernel others h =
     let same : [] ≡ unit_row ∷ [] =
-    unique_minimal 101 (pos 0 ∷ []) (IsAny 101 (pos 0 ∷ [])) (InSpan two_variables)
-    (unique_reduced 101 (omega arith) (pos 0 ∷ []) (IsAny 101 (pos 0 ∷ []))
-    (record { vectors = λ v k. k; differences = λ u v k l e. IsVector-difference 101 (omega arith) (pos 0 ∷ []) u v k l e })) [] (unit_row ∷ []) h.generators_minimal generators in
+    unique_minimal (plain 101) (pos 0 ∷ []) (IsAny (plain 101) (pos 0 ∷ [])) (InSpan two_variables)
+    (unique_reduced (plain 101) (omega arith) (pos 0 ∷ []) (IsAny (plain 101) (pos 0 ∷ []))
+    (record { vectors = λ v k. k; differences = λ u v k l e. IsVector-difference (plain 101) (omega arith) (pos 0 ∷ []) u v k l e })) [] (unit_row ∷ []) h.generators_minimal generators in
     cc

@@ -3,6 +3,7 @@ use Rattle.std.proofs.Common.{[], ◌∷◌, inl, inr, refl, arith, pos}
 use Rattle.std.proofs.lemmas.Int.{ints}
 use Rattle.sf_algebra.specs.Multiples.{combination, combination_terms}
 use Rattle.sf_algebra.specs.Residues.{sum_mod, product_mod}
+use Rattle.sf_algebra.specs.Rings.{plain, ones}
 use Rattle.sf_algebra.specs.Sums.{add, normal, insert}
 use Rattle.sf_algebra.specs.Vectors.{Vector}
 use Rattle.sf_groebner.specs.Examples.{term, vector}
@@ -17,11 +18,11 @@ use Rattle.sf_groebner.proofs.FreeRelations.{reduced-free_relations, reduced-no_
 use Rattle.sf_groebner.proofs.KoszulSteps.{variables-syzygies, koszul-needed, koszul-end}
 
 -- the cycles are the syzygies of x and y
-cycles : IsReducedBasis (IsCycle two_variables no_rows_below) (koszul_row ∷ [])
+cycles : IsReducedBasis ones (IsCycle two_variables no_rows_below) (koszul_row ∷ [])
 cycles = reduced-free_relations two_variables (omega arith) (pos 0 ∷ []) (koszul_row ∷ []) variables-syzygies
 
 -- the row is in its own span
-koszul_left_out : IsInSum (matrix_of 101 (pos 1 ∷ pos 1 ∷ []) []) (InSpan koszul) koszul_row
+koszul_left_out : IsInSum (matrix_of (plain 101) (pos 1 ∷ pos 1 ∷ []) []) (InSpan koszul) koszul_row
 unfolding add combination combination_terms normal insert sum_mod product_mod
 koszul_left_out = record {
   first = koszul_row;
@@ -33,8 +34,8 @@ koszul_left_out = record {
   sum = refl;
 }
 
-no_relations : (B : Vector → Type 0) → AreMinimal 101 [] (IsRelation no_rows_between B) IsZero []
-no_relations B = record { basis = []; reduced = reduced-no_rows 101 (pos 1 ∷ pos 1 ∷ []) B; kept = refl }
+no_relations : (B : Vector → Type 0) → AreMinimal (plain 101) [] (IsRelation no_rows_between B) IsZero []
+no_relations B = record { basis = []; reduced = reduced-no_rows (plain 101) (pos 1 ∷ pos 1 ∷ []) B; kept = refl }
 
 pub koszul-homology : HasNoKoszulHomology
 koszul-homology = record {
@@ -47,11 +48,11 @@ koszul-homology = record {
 }
 
 -- modulo no rows a sum is one modulo 0
-sum_from_free : (v : Vector) → IsInSum (matrix_of 101 (pos 1 ∷ pos 1 ∷ []) []) (InSpan no_rows_between) v → IsInSum (matrix_of 101 (pos 1 ∷ pos 1 ∷ []) []) IsZero v
+sum_from_free : (v : Vector) → IsInSum (matrix_of (plain 101) (pos 1 ∷ pos 1 ∷ []) []) (InSpan no_rows_between) v → IsInSum (matrix_of (plain 101) (pos 1 ∷ pos 1 ∷ []) []) IsZero v
 sum_from_free v h = record {
   first = h.first;
   second = h.second;
-  in_module = span-no_rows 101 (omega arith) (pos 1 ∷ pos 1 ∷ []) h.first h.in_module;
+  in_module = span-no_rows (plain 101) (omega arith) (pos 1 ∷ pos 1 ∷ []) h.first h.in_module;
   in_span = h.in_span;
   first_degree = h.first_degree;
   second_degree = h.second_degree;

@@ -3,6 +3,7 @@ use Rattle.std.proofs.Common.{◌≡◌, List, [], sym, ◌∙◌, ap, arith, �
 use Rattle.sf_algebra.specs.Matrices.{Matrix, IsMatrix, row_degrees}
 use Rattle.sf_algebra.specs.MatrixOperations.{row_combination}
 use Rattle.sf_algebra.specs.Primes.{IsPrime}
+use Rattle.sf_algebra.specs.Rings.{IsRing, IsOverField, Ring}
 use Rattle.sf_algebra.specs.Sums.{add}
 use Rattle.sf_algebra.specs.Vectors.{Vector, place_cmp}
 use Rattle.sf_algebra.proofs.Orders.{place_cmp_linear}
@@ -10,24 +11,25 @@ use Rattle.sf_algebra.proofs.Rows.{IsCanonical-row_combination, row_combination-
 use Rattle.sf_algebra.proofs.Sums.{add-nil}
 use Rattle.sf_groebner.specs.Lifts.{IsLift}
 use Rattle.sf_groebner.specs.Spans.{InSpan, IsSyzygy}
+use Rattle.sf_algebra.proofs.Weights.{field_ring}
 use Rattle.sf_groebner.proofs.Divisions.{divide}
 use Rattle.sf_groebner.proofs.MatrixBases.{basis-monic, syzygy_basis}
 use Rattle.sf_groebner.proofs.SyzygyCombinations.{syzygy_submodule}
 
-pub lift_exists : (m : Matrix) → IsPrime m.modulus → IsMatrix m → (v : Vector) → InSpan m v → (c : Vector) × IsLift m v c
+pub lift_exists : (m : Matrix) → IsOverField m.ring → IsMatrix m → (v : Vector) → InSpan m v → (c : Vector) × IsLift m v c
 lift_exists m prime matrix v h =
-    let p : ℕ = m.modulus in
-    let positive : 0 < p = omega (arith, prime.above_one) in
+    let ring : Ring = m.ring in
+    let positive : IsRing ring = field_ring prime in
     let b = syzygy_basis m prime matrix in
     let syzygies : List Vector = b.0 in
     let given : Vector = h.0 in
-    let e = divide p prime (row_degrees m) syzygies (basis-monic p (row_degrees m) (IsSyzygy m) (λ w k. k.coefficients) syzygies b.1) given h.1 in
-    let zero : row_combination p m.rows (row_combination p syzygies e.quotients) ≡ [] = ((syzygy_submodule m positive).combinations syzygies b.1.inside given.degree e.quotients e.homogeneous).zero in
-    let terms : row_combination p m.rows e.rest ≡ row_combination p m.rows given.terms =
-    sym (add-nil place_cmp place_cmp_linear p positive (row_combination p m.rows e.rest) (IsCanonical-row_combination p positive m.rows e.rest))
-    ∙ ap (add place_cmp p (row_combination p m.rows e.rest)) (sym zero)
-    ∙ sym (row_combination-add p positive m.rows e.rest (row_combination p syzygies e.quotients))
-    ∙ ap (row_combination p m.rows) e.sum in (
+    let e = divide ring prime (row_degrees m) syzygies (basis-monic ring (row_degrees m) (IsSyzygy m) (λ w k. k.coefficients) syzygies b.1) given h.1 in
+    let zero : row_combination ring m.rows (row_combination ring syzygies e.quotients) ≡ [] = ((syzygy_submodule m positive).combinations syzygies b.1.inside given.degree e.quotients e.homogeneous).zero in
+    let terms : row_combination ring m.rows e.rest ≡ row_combination ring m.rows given.terms =
+    sym (add-nil (place_cmp ring.weights) (place_cmp_linear ring.weights) ring.modulus positive.modulus (row_combination ring m.rows e.rest) (IsCanonical-row_combination ring positive.modulus m.rows e.rest))
+    ∙ ap (add (place_cmp ring.weights) ring.modulus (row_combination ring m.rows e.rest)) (sym zero)
+    ∙ sym (row_combination-add ring positive.modulus m.rows e.rest (row_combination ring syzygies e.quotients))
+    ∙ ap (row_combination ring m.rows) e.sum in (
       record { degree = given.degree; terms = e.rest },
       record {
         syzygies = syzygies;

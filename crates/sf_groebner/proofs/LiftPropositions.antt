@@ -3,6 +3,7 @@ use Rattle.std.proofs.Common.{◌≡◌, ◌<◌}
 use Rattle.std.proofs.Props.{props}
 use mathlib.Core.HLevel.{is_prop→PathP}
 use Rattle.sf_algebra.specs.Matrices.{Matrix, row_degrees}
+use Rattle.sf_algebra.specs.Rings.{IsRing}
 use Rattle.sf_algebra.specs.Vectors.{Vector}
 use Rattle.sf_groebner.specs.Lifts.{IsLift}
 use Rattle.sf_groebner.specs.ReducedBases.{IsReducedBy, IsReducedBasis}
@@ -14,15 +15,15 @@ use Rattle.sf_groebner.proofs.UniqueBases.{unique_reduced}
 same_vectors-prop : (v w : Vector) → IsProp (v ≡ w)
 same_vectors-prop v w = hlevel props
 
-pub IsLift-prop : (m : Matrix) → 0 < m.modulus → (v c : Vector) → IsProp (IsLift m v c)
+pub IsLift-prop : (m : Matrix) → IsRing m.ring → (v c : Vector) → IsProp (IsLift m v c)
 IsLift-prop m positive v c h k =
-    let bases : h.syzygies ≡ k.syzygies = unique_reduced m.modulus positive (row_degrees m) (IsSyzygy m) (syzygy_module m positive) h.syzygies k.syzygies h.basis k.basis in
-    let basis = is_prop→PathP (λ i. IsReducedBasis (IsSyzygy m) (bases i)) (λ i. syzygy_basis-prop m (bases i)) h.basis k.basis in
+    let bases : h.syzygies ≡ k.syzygies = unique_reduced m.ring positive (row_degrees m) (IsSyzygy m) (syzygy_module m positive) h.syzygies k.syzygies h.basis k.basis in
+    let basis = is_prop→PathP (λ i. IsReducedBasis m.ring.weights (IsSyzygy m) (bases i)) (λ i. syzygy_basis-prop m (bases i)) h.basis k.basis in
     let reduced = is_prop→PathP (λ i. IsReducedBy (bases i) c.terms) (λ i. IsReducedBy-prop (bases i) c.terms) h.reduced k.reduced in
     λ i. record {
       syzygies = bases i;
       basis = basis i;
-      coefficients = IsVector-prop m.modulus (row_degrees m) c h.coefficients k.coefficients i;
+      coefficients = IsVector-prop m.ring (row_degrees m) c h.coefficients k.coefficients i;
       value = same_vectors-prop (combined m c) v h.value k.value i;
       reduced = reduced i;
     }

@@ -3,6 +3,7 @@ use Rattle.std.proofs.Common.{◌≡◌, ◌||◌, false, ℕ, ◌<◌, List, le
 use Rattle.sf_algebra.specs.Matrices.{Matrix, row_degrees}
 use Rattle.sf_algebra.specs.MatrixOperations.{part_terms, row_combination, stacked}
 use Rattle.sf_algebra.specs.Multiples.{negative}
+use Rattle.sf_algebra.specs.Rings.{IsRing}
 use Rattle.sf_algebra.specs.Sums.{add}
 use Rattle.sf_algebra.specs.Vectors.{Vector, place_cmp}
 use Rattle.sf_algebra.proofs.Keys.{place_keys}
@@ -22,43 +23,43 @@ use Rattle.sf_groebner.proofs.Remainders.{same_reduced}
 use Rattle.sf_groebner.proofs.Spans.{IsVector-difference, combined-difference, syzygy_module}
 use Rattle.sf_groebner.proofs.UniqueBases.{unique_reduced}
 
-module _ (m : Matrix) (positive : 0 < m.modulus) where
+module _ (m : Matrix) (positive : IsRing m.ring) where
   -- coefficients of one vector differ by a syzygy
-  pub IsSyzygy-difference : (c d : Vector) → IsCoefficients m c → IsCoefficients m d → combined m c ≡ combined m d → IsSyzygy m (difference m.modulus c d)
+  pub IsSyzygy-difference : (c d : Vector) → IsCoefficients m c → IsCoefficients m d → combined m c ≡ combined m d → IsSyzygy m (difference m.ring c d)
   IsSyzygy-difference c d h k same = record {
-    coefficients = IsVector-difference m.modulus positive (row_degrees m) c d h k (ap (λ v. v.degree) same);
+    coefficients = IsVector-difference m.ring positive (row_degrees m) c d h k (ap (λ v. v.degree) same);
     zero = ap (λ v. v.terms) (combined-difference m positive c d k.canonical)
-        ∙ ap (λ v. add place_cmp m.modulus v.terms (negative m.modulus (row_combination m.modulus m.rows d.terms))) same
-        ∙ add-negative place_keys m.modulus positive (row_combination m.modulus m.rows d.terms) (IsCanonical-row_combination m.modulus positive m.rows d.terms);
+        ∙ ap (λ v. add (place_cmp m.ring.weights) m.ring.modulus v.terms (negative m.ring.modulus (row_combination m.ring m.rows d.terms))) same
+        ∙ add-negative (place_keys m.ring.weights) m.ring.modulus positive.modulus (row_combination m.ring m.rows d.terms) (IsCanonical-row_combination m.ring positive.modulus m.rows d.terms);
   }
 
   pub unique_lift : (v c d : Vector) → IsLift m v c → IsLift m v d → c ≡ d
   unique_lift v c d h k =
       let value : combined m c ≡ combined m d = h.value ∙ sym k.value in
-      let bases : k.syzygies ≡ h.syzygies = unique_reduced m.modulus positive (row_degrees m) (IsSyzygy m) (syzygy_module m positive) k.syzygies h.syzygies k.basis h.basis in
+      let bases : k.syzygies ≡ h.syzygies = unique_reduced m.ring positive (row_degrees m) (IsSyzygy m) (syzygy_module m positive) k.syzygies h.syzygies k.basis h.basis in
       let terms : c.terms ≡ d.terms =
-      same_reduced m.modulus positive h.syzygies c d h.coefficients.canonical k.coefficients.canonical
-      (h.basis.complete (difference m.modulus c d) (IsSyzygy-difference c d h.coefficients k.coefficients value))
+      same_reduced m.ring positive h.syzygies c d h.coefficients.canonical k.coefficients.canonical
+      (h.basis.complete (difference m.ring c d) (IsSyzygy-difference c d h.coefficients k.coefficients value))
       h.reduced (subst (λ basis. IsReducedBy basis d.terms) bases k.reduced) in
       λ i. record { degree = (value i).degree; terms = terms i }
 
 -- what is reduced by all syzygies has first coefficients that are reduced by the first blocks of syzygies
-pub reduced-first_block : (m : Matrix) (n : ℕ) (syzygies : List Vector) (c : Vector) → IsReducedBasis (IsSyzygy m) syzygies → IsReducedBy syzygies c.terms
+pub reduced-first_block : (m : Matrix) (n : ℕ) (syzygies : List Vector) (c : Vector) → IsReducedBasis m.ring.weights (IsSyzygy m) syzygies → IsReducedBy syzygies c.terms
     → IsReducedBy (first_parts n syzygies) (part_terms 0 n c.terms)
 reduced-first_block m n syzygies c h free =
-    let cut = first_part m.modulus (row_degrees m) (IsSyzygy m) (λ w k. k.coefficients) n in
-    reduced_by-parts 0 n (has_first_part n) (IsSyzygy m) (IsFirstPart m.modulus (row_degrees m) (IsSyzygy m) (λ w k. k.coefficients) n) cut syzygies
-    (elements 0 n (has_first_part n) (IsSyzygy m) (IsFirstPart m.modulus (row_degrees m) (IsSyzygy m) (λ w k. k.coefficients) n) cut syzygies h) c
+    let cut = first_part m.ring (row_degrees m) (IsSyzygy m) (λ w k. k.coefficients) n in
+    reduced_by-parts 0 n (has_first_part n) (IsSyzygy m) (IsFirstPart m.ring (row_degrees m) (IsSyzygy m) (λ w k. k.coefficients) n) cut syzygies
+    (elements 0 n (has_first_part n) (IsSyzygy m) (IsFirstPart m.ring (row_degrees m) (IsSyzygy m) (λ w k. k.coefficients) n) cut m.ring.weights syzygies h) c
     (AllByRecursion-from_items _ syzygies (λ w item e. AllByRecursion-weaken _ _ (λ t no. ap (λ b. b || false) no) c.terms (IsReducedBy-item syzygies w c.terms free item)))
 
 -- so by every reduced basis of these
-pub reduced-coordinates : (a b : Matrix) → 0 < a.modulus → (v c : Vector) → IsLift (stacked a b) v c → (basis : List Vector) → IsReducedBasis (IsFirstBlock a b) basis
+pub reduced-coordinates : (a b : Matrix) → IsRing a.ring → (v c : Vector) → IsLift (stacked a b) v c → (basis : List Vector) → IsReducedBasis a.ring.weights (IsFirstBlock a b) basis
     → IsReducedBy basis (part_terms 0 (length a.rows) c.terms)
 reduced-coordinates a b positive v c h basis k =
     let m = stacked a b in
     let n = length a.rows in
     let module_like = syzygy_module m positive in
-    let blocks = first_part_module m.modulus (row_degrees m) (IsSyzygy m) (λ w l. l.coefficients) n positive module_like.differences in
-    let first = reduced-first_parts m.modulus (row_degrees m) (IsSyzygy m) (λ w l. l.coefficients) n h.syzygies h.basis in
-    let same : first_parts n h.syzygies ≡ basis = unique_reduced m.modulus positive (slice_range (row_degrees m) 0 n) (IsFirstBlock a b) blocks (first_parts n h.syzygies) basis first k in
+    let blocks = first_part_module m.ring (row_degrees m) (IsSyzygy m) (λ w l. l.coefficients) n positive module_like.differences in
+    let first = reduced-first_parts m.ring (row_degrees m) (IsSyzygy m) (λ w l. l.coefficients) n h.syzygies h.basis in
+    let same : first_parts n h.syzygies ≡ basis = unique_reduced m.ring positive (slice_range (row_degrees m) 0 n) (IsFirstBlock a b) blocks (first_parts n h.syzygies) basis first k in
     subst (λ l. IsReducedBy l (part_terms 0 n c.terms)) same (reduced-first_block m n h.syzygies c h.basis h.reduced)

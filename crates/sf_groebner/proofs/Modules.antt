@@ -1,14 +1,15 @@
 -- Modules of homogeneous vectors, as far as their bases, lifts and generators being unique asks.
 use Rattle.std.proofs.Common.{◌≡◌, ℕ, List, ℤ}
 use Rattle.sf_algebra.specs.Multiples.{negative}
+use Rattle.sf_algebra.specs.Rings.{Ring}
 use Rattle.sf_algebra.specs.Sums.{add}
 use Rattle.sf_algebra.specs.Vectors.{Vector, place_cmp, IsVector}
 
 -- u - v, of the degree of u
-abbrev pub difference : ℕ → Vector → Vector → Vector
-difference p u v = record { degree = u.degree; terms = add place_cmp p u.terms (negative p v.terms) }
+abbrev pub difference : Ring → Vector → Vector → Vector
+difference ring u v = record { degree = u.degree; terms = add (place_cmp ring.weights) ring.modulus u.terms (negative ring.modulus v.terms) }
 
 -- the vectors of N are homogeneous vectors over one free module, and differences of two of one degree are in N
-pub record IsModuleLike (p : ℕ) (degrees : List ℤ) (N : Vector → Type 0) : Type 0 where
-  pub vectors : (v : Vector) → N v → IsVector p degrees v
-  pub differences : (u v : Vector) → N u → N v → u.degree ≡ v.degree → N (difference p u v)
+pub record IsModuleLike (ring : Ring) (degrees : List ℤ) (N : Vector → Type 0) : Type 0 where
+  pub vectors : (v : Vector) → N v → IsVector ring degrees v
+  pub differences : (u v : Vector) → N u → N v → u.degree ≡ v.degree → N (difference ring u v)

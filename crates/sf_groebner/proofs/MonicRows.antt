@@ -5,6 +5,7 @@ use Rattle.std.specs.List.{AllByRecursion}
 use Rattle.sf_algebra.specs.MatrixOperations.{row_at}
 use Rattle.sf_algebra.specs.Monomials.{Monomial}
 use Rattle.sf_algebra.specs.Multiples.{place_product}
+use Rattle.sf_algebra.specs.Rings.{Ring}
 use Rattle.sf_algebra.specs.Terms.{Term, IsCanonical}
 use Rattle.sf_algebra.specs.Vectors.{Place, Vector, place_cmp}
 use Rattle.sf_groebner.specs.Criterion.{IsMonicRow, image, lead_at, lead_place}
@@ -29,26 +30,26 @@ lead_bound-row (v ∷ vs) zero h = omega arith
 lead_bound-row (v ∷ vs) (suc i) h = let rest = lead_bound-row vs i (omega arith) in omega arith
 
 -- a monic row among others
-pub IsMonicRow-row_at : (p : ℕ) (rows : List Vector) → AllByRecursion (IsMonicRow p) rows → (i : ℕ) → i < length rows → IsCanonical place_cmp p (row_at rows i) × IsMonic (row_at rows i)
-IsMonicRow-row_at p [] h i within = absurd (omega arith)
-IsMonicRow-row_at p (v ∷ vs) h zero within = (h.0.canonical, h.0.monic)
-IsMonicRow-row_at p (v ∷ vs) h (suc i) within = IsMonicRow-row_at p vs h.1 i (omega arith)
+pub IsMonicRow-row_at : (ring : Ring) (rows : List Vector) → AllByRecursion (IsMonicRow ring) rows → (i : ℕ) → i < length rows → IsCanonical (place_cmp ring.weights) ring.modulus (row_at rows i) × IsMonic (row_at rows i)
+IsMonicRow-row_at ring [] h i within = absurd (omega arith)
+IsMonicRow-row_at ring (v ∷ vs) h zero within = (h.0.canonical, h.0.monic)
+IsMonicRow-row_at ring (v ∷ vs) h (suc i) within = IsMonicRow-row_at ring vs h.1 i (omega arith)
 
 -- a monic list is its lead with the coefficient 1, and its tail
 pub IsMonic-shape : (ts : List (Term Place)) → IsMonic ts → ts ≡ record { at = lead_place ts; coefficient = 1 } ∷ tail_of ts
 IsMonic-shape [] h = absurd h
 IsMonic-shape (t ∷ ts) h = λ i. record { at = t.at; coefficient = h i } ∷ ts
 
-pub tail_of-low : (p : ℕ) (ts : List (Term Place)) → IsCanonical place_cmp p ts → AllByRecursion (λ (t : Term Place). place_cmp t.at (lead_place ts) ≡ Less) (tail_of ts)
-tail_of-low p [] h = tt
-tail_of-low p (t ∷ ts) h = h.descending.0
+pub tail_of-low : (ring : Ring) (ts : List (Term Place)) → IsCanonical (place_cmp ring.weights) ring.modulus ts → AllByRecursion (λ (t : Term Place). place_cmp ring.weights t.at (lead_place ts) ≡ Less) (tail_of ts)
+tail_of-low ring [] h = tt
+tail_of-low ring (t ∷ ts) h = h.descending.0
 
 -- at places for monic rows
-abbrev pub monic_leads : (p : ℕ) (rows : List Vector) → AllByRecursion (IsMonicRow p) rows → (In : Place → Type 0) → ((k : Place) → In k → k.position < length rows) → HasLeads (lead_bound rows) In rows (lead_at rows)
-monic_leads p rows monic In inside = record {
+abbrev pub monic_leads : (ring : Ring) (rows : List Vector) → AllByRecursion (IsMonicRow ring) rows → (In : Place → Type 0) → ((k : Place) → In k → k.position < length rows) → HasLeads ring.weights (lead_bound rows) In rows (lead_at rows)
+monic_leads ring rows monic In inside = record {
   tail = λ i. tail_of (row_at rows i);
-  shape = λ k h. IsMonic-shape (row_at rows k.position) (IsMonicRow-row_at p rows monic k.position (inside k h)).1;
-  low = λ k h. tail_of-low p (row_at rows k.position) (IsMonicRow-row_at p rows monic k.position (inside k h)).0;
+  shape = λ k h. IsMonic-shape (row_at rows k.position) (IsMonicRow-row_at ring rows monic k.position (inside k h)).1;
+  low = λ k h. tail_of-low ring (row_at rows k.position) (IsMonicRow-row_at ring rows monic k.position (inside k h)).0;
   column = λ k h. lead_bound-row rows k.position (inside k h);
 }
 
@@ -67,8 +68,8 @@ lead_divides-product [] a h = absurd h
 lead_divides-product (t ∷ ts) a h = (Decides-place_divides t.at (place_product a t.at)).1 (PlaceDivides-place_product a t.at)
 
 -- what begins at an image has a lead that a row's divides
-pub HasDividedLead-Begins : (p : ℕ) (rows : List Vector) → AllByRecursion (IsMonicRow p) rows → (k : Place) → k.position < length rows → (v : List (Term Place)) → Begins (image (lead_at rows) k) v → HasDividedLead rows v
-HasDividedLead-Begins p rows monic k within v begins =
+pub HasDividedLead-Begins : (ring : Ring) (rows : List Vector) → AllByRecursion (IsMonicRow ring) rows → (k : Place) → k.position < length rows → (v : List (Term Place)) → Begins (image (lead_at rows) k) v → HasDividedLead rows v
+HasDividedLead-Begins ring rows monic k within v begins =
     subst (HasDividedLead rows) (sym begins.shape)
     (is_divided-row rows k.position (image (lead_at rows) k) within
-    (lead_divides-product (row_at rows k.position) k.monomial (IsMonicRow-row_at p rows monic k.position within).1))
+    (lead_divides-product (row_at rows k.position) k.monomial (IsMonicRow-row_at ring rows monic k.position within).1))

@@ -2,6 +2,7 @@
 use Rattle.std.proofs.Common.{◌≡◌, ℕ, ◌<◌, List, [], ◌∷◌, length, sym, ◌∙◌, ap, subst, ℤ, arith}
 use Rattle.std.specs.List.{AllByRecursion}
 use Rattle.sf_algebra.specs.MatrixOperations.{row_combination}
+use Rattle.sf_algebra.specs.Rings.{Ring, IsRing}
 use Rattle.sf_algebra.specs.Sums.{add}
 use Rattle.sf_algebra.specs.Terms.{Term, IsCanonical}
 use Rattle.sf_algebra.specs.Vectors.{Place, Vector, place_cmp}
@@ -17,34 +18,34 @@ use Rattle.sf_groebner.proofs.Buchberger.{buchberger}
 use Rattle.sf_groebner.proofs.GraphParts.{IsWithin-coefficients}
 use Rattle.sf_groebner.proofs.Schreyer.{IsSpanned, schreyer}
 
-module _ (p : ℕ) (positive : 0 < p) where
-  module _ (target : List ℤ) (rows : List Vector) (monic : AllByRecursion (IsMonicRow p) rows)
-      (pairs : (i j : ℕ) → i < j → j < length rows → HaveLeadsAtOnePosition rows i j → ReducesToZero p rows i j) where
-    span_lead : (v : Vector) → InSpan (matrix_of p target rows) v → HasDividedLead rows v.terms
-    span_lead v h = subst (λ (w : Vector). HasDividedLead rows w.terms) h.2 (buchberger p positive rows monic pairs h.0.terms (IsWithin-coefficients (matrix_of p target rows) h.0 h.1))
+module _ (ring : Ring) (positive : IsRing ring) where
+  module _ (target : List ℤ) (rows : List Vector) (monic : AllByRecursion (IsMonicRow ring) rows)
+      (pairs : (i j : ℕ) → i < j → j < length rows → HaveLeadsAtOnePosition rows i j → ReducesToZero ring rows i j) where
+    span_lead : (v : Vector) → InSpan (matrix_of ring target rows) v → HasDividedLead rows v.terms
+    span_lead v h = subst (λ (w : Vector). HasDividedLead rows w.terms) h.2 (buchberger ring positive rows monic pairs h.0.terms (IsWithin-coefficients (matrix_of ring target rows) h.0 h.1))
 
-    sum-zero_first : (v : Vector) (h : IsInSum (matrix_of p target rows) IsZero v) → h.second.terms ≡ v.terms
+    sum-zero_first : (v : Vector) (h : IsInSum (matrix_of ring target rows) IsZero v) → h.second.terms ≡ v.terms
     sum-zero_first v h =
-        sym (add-nil_first place_cmp place_cmp_linear p positive h.second.terms
-        (subst (λ (w : Vector). IsCanonical place_cmp p w.terms) h.in_span.2 (IsCanonical-row_combination p positive rows h.in_span.0.terms)))
-        ∙ ap (λ us. add place_cmp p us h.second.terms) (sym h.in_module)
+        sym (add-nil_first (place_cmp ring.weights) (place_cmp_linear ring.weights) ring.modulus positive.modulus h.second.terms
+        (subst (λ (w : Vector). IsCanonical (place_cmp ring.weights) ring.modulus w.terms) h.in_span.2 (IsCanonical-row_combination ring positive.modulus rows h.in_span.0.terms)))
+        ∙ ap (λ us. add (place_cmp ring.weights) ring.modulus us h.second.terms) (sym h.in_module)
         ∙ h.sum
 
-    pub not_in_sum : (v : Vector) → (HasDividedLead rows v.terms → ⊥) → IsInSum (matrix_of p target rows) IsZero v → ⊥
+    pub not_in_sum : (v : Vector) → (HasDividedLead rows v.terms → ⊥) → IsInSum (matrix_of ring target rows) IsZero v → ⊥
     not_in_sum v none h = none (subst (HasDividedLead rows) (sum-zero_first v h) (span_lead h.second h.in_span))
 
   -- combinations of no rows have no lead
-  no_rows : (c : List (Term Place)) → AllByRecursion (IsForRows []) c → HasDividedLead [] (row_combination p [] c)
-  no_rows = buchberger p positive [] tt (λ i j h k e. absurd (omega (arith, k)))
+  no_rows : (c : List (Term Place)) → AllByRecursion (IsForRows []) c → HasDividedLead [] (row_combination ring [] c)
+  no_rows = buchberger ring positive [] tt (λ i j h k e. absurd (omega (arith, k)))
 
-  pub no_syzygies : (target : List ℤ) (v : Vector) → IsMonicRow p v → IsReducedBasis (IsSyzygy (matrix_of p target (v ∷ []))) []
+  pub no_syzygies : (target : List ℤ) (v : Vector) → IsMonicRow ring v → IsReducedBasis ring.weights (IsSyzygy (matrix_of ring target (v ∷ []))) []
   no_syzygies target v monic = record {
     inside = tt;
     monic = tt;
     complete = λ c h.
-        let spanned : IsSpanned p [] c.terms =
-        schreyer p positive (v ∷ []) [] tt (monic, tt) (λ i j earlier within e. absurd (omega (arith, earlier, within))) c.terms (IsWithin-coefficients (matrix_of p target (v ∷ [])) c h.coefficients) h.zero in
-        subst (HasDividedLead []) (spanned.value ∙ normal-canonical place_cmp place_cmp_linear p positive c.terms h.coefficients.canonical) (no_rows spanned.coefficients spanned.for_rows);
+        let spanned : IsSpanned ring [] c.terms =
+        schreyer ring positive (v ∷ []) [] tt (monic, tt) (λ i j earlier within e. absurd (omega (arith, earlier, within))) c.terms (IsWithin-coefficients (matrix_of ring target (v ∷ [])) c h.coefficients) h.zero in
+        subst (HasDividedLead []) (spanned.value ∙ normal-canonical (place_cmp ring.weights) (place_cmp_linear ring.weights) ring.modulus positive.modulus c.terms h.coefficients.canonical) (no_rows spanned.coefficients spanned.for_rows);
     apart = tt;
     sorted = tt;
   }

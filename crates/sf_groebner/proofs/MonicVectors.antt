@@ -7,9 +7,10 @@ use Rattle.std.proofs.lemmas.List.{length-map}
 use Rattle.std.specs.List.{AllByRecursion}
 use Rattle.sf_algebra.specs.Divisibility.{quotient}
 use Rattle.sf_algebra.specs.MatrixOperations.{row_at, row_combination}
-use Rattle.sf_algebra.specs.Monomials.{exponent_sum}
+use Rattle.sf_algebra.specs.Monomials.{monomial_degree}
 use Rattle.sf_algebra.specs.Multiples.{place_product, term_product}
 use Rattle.sf_algebra.specs.Primes.{IsPrime}
+use Rattle.sf_algebra.specs.Rings.{Ring, IsOverField}
 use Rattle.sf_algebra.specs.Terms.{Term, IsNonzeroResidue}
 use Rattle.sf_algebra.specs.Vectors.{Place, Vector, generator_degree, term_degree, IsTermOfDegree, IsHomogeneous, IsVector}
 use Rattle.sf_algebra.proofs.Degrees.{degrees_of, HasHomogeneousRows}
@@ -17,18 +18,19 @@ use Rattle.sf_algebra.proofs.Divisors.{product-quotient}
 use Rattle.sf_algebra.proofs.Keys.{place_keys}
 use Rattle.sf_algebra.proofs.Lists.{AllByRecursion-weaken}
 use Rattle.sf_algebra.proofs.PrimeMultiples.{multiple-map}
-use Rattle.sf_algebra.proofs.Products.{exponent_sum-product}
+use Rattle.sf_algebra.proofs.Products.{monomial_degree-product}
 use Rattle.sf_algebra.proofs.Residues.{product_mod-one}
 use Rattle.sf_algebra.proofs.Rows.{row_combination-one}
 use Rattle.sf_groebner.specs.Criterion.{lead_place, lead_at, image}
 use Rattle.sf_groebner.specs.Leads.{PlaceDivides}
 use Rattle.sf_groebner.specs.ReducedBases.{lead_divides, is_divided, IsMonic}
+use Rattle.sf_algebra.proofs.Weights.{field_ring}
 use Rattle.sf_groebner.proofs.MonicRows.{IsMonic-shape, tail_of}
 use Rattle.sf_groebner.proofs.PlaceDivisors.{Decides-place_divides, place_product-quotient}
 
 -- a homogeneous vector whose lead has the coefficient 1
-pub record IsMonicVector (p : ℕ) (target : List ℤ) (v : Vector) : Type 0 where
-  pub vector : IsVector p target v
+pub record IsMonicVector (ring : Ring) (target : List ℤ) (v : Vector) : Type 0 where
+  pub vector : IsVector ring target v
   pub monic : IsMonic v.terms
 
 -- what holds of each row holds of that at a position
@@ -59,41 +61,41 @@ step rows i t = record { at = record { position = i; monomial = quotient t.at.mo
 pub image-step : (rows : List Vector) (i : ℕ) (t : Term Place) → PlaceDivides (lead_at rows i) t.at → image (lead_at rows) (step rows i t).at ≡ t.at
 image-step rows i t h = place_product-quotient (lead_at rows i) t.at h
 
-module _ (p : ℕ) (target : List ℤ) (rows : List Vector) (monic : AllByRecursion (IsMonicVector p target) rows) where
-  pub monic_row : (i : ℕ) → i < length rows → IsMonicVector p target (record { degree = generator_degree (degrees_of rows) i; terms = row_at rows i })
-  monic_row = AllByRecursion-row_at (λ d ts. IsMonicVector p target (record { degree = d; terms = ts })) rows monic
+module _ (ring : Ring) (target : List ℤ) (rows : List Vector) (monic : AllByRecursion (IsMonicVector ring target) rows) where
+  pub monic_row : (i : ℕ) → i < length rows → IsMonicVector ring target (record { degree = generator_degree (degrees_of rows) i; terms = row_at rows i })
+  monic_row = AllByRecursion-row_at (λ d ts. IsMonicVector ring target (record { degree = d; terms = ts })) rows monic
 
-  pub monic_homogeneous : HasHomogeneousRows target rows
+  pub monic_homogeneous : HasHomogeneousRows ring.weights target rows
   monic_homogeneous = AllByRecursion-weaken _ _ (λ v h. h.vector.homogeneous) rows monic
 
-  pub row_multiple : IsPrime p → (i : ℕ) → i < length rows → (t : Term Place) → IsNonzeroResidue p t → PlaceDivides (lead_at rows i) t.at
-      → (us : List (Term Place)) × (row_combination p rows (step rows i t ∷ []) ≡ t ∷ us)
+  pub row_multiple : IsOverField ring → (i : ℕ) → i < length rows → (t : Term Place) → IsNonzeroResidue ring.modulus t → PlaceDivides (lead_at rows i) t.at
+      → (us : List (Term Place)) × (row_combination ring rows (step rows i t ∷ []) ≡ t ∷ us)
   row_multiple prime i within t nonzero divides =
       let row = monic_row i within in
       let shape = IsMonic-shape (row_at rows i) row.monic in
       let s : Term _ = record { at = quotient t.at.monomial (lead_at rows i).monomial; coefficient = t.coefficient } in
-      let first : term_product place_product p s (record { at = lead_at rows i; coefficient = 1 }) ≡ t =
+      let first : term_product place_product ring.modulus s (record { at = lead_at rows i; coefficient = 1 }) ≡ t =
       λ j. record {
         at = place_product-quotient (lead_at rows i) t.at divides j;
-        coefficient = (product_mod-one p t.coefficient ∙ mod-eq_of_lt nonzero.1) j;
+        coefficient = (product_mod-one ring.modulus t.coefficient ∙ mod-eq_of_lt nonzero.1) j;
       } in (
-        map (term_product place_product p s) (tail_of (row_at rows i)),
-        row_combination-one p (omega (arith, prime.above_one)) rows (step rows i t)
-            ∙ multiple-map place_keys p s prime nonzero (row_at rows i) row.vector.canonical
-            ∙ ap (map (term_product place_product p s)) shape
-            ∙ ap (λ u. u ∷ map (term_product place_product p s) (tail_of (row_at rows i))) first,
+        map (term_product place_product ring.modulus s) (tail_of (row_at rows i)),
+        row_combination-one ring (field_ring prime).modulus rows (step rows i t)
+            ∙ multiple-map (place_keys ring.weights) ring.modulus s prime.prime nonzero (row_at rows i) row.vector.canonical
+            ∙ ap (map (term_product place_product ring.modulus s)) shape
+            ∙ ap (λ u. u ∷ map (term_product place_product ring.modulus s) (tail_of (row_at rows i))) first,
       )
 
   -- it has the degree of t
-  pub IsTermOfDegree-step : (i : ℕ) → i < length rows → (d : ℤ) (t : Term Place) → PlaceDivides (lead_at rows i) t.at → IsTermOfDegree target d t → IsTermOfDegree (degrees_of rows) d (step rows i t)
+  pub IsTermOfDegree-step : (i : ℕ) → i < length rows → (d : ℤ) (t : Term Place) → PlaceDivides (lead_at rows i) t.at → IsTermOfDegree ring.weights target d t → IsTermOfDegree ring.weights (degrees_of rows) d (step rows i t)
   IsTermOfDegree-step i within d t divides h =
       let row = monic_row i within in
       let shape = IsMonic-shape (row_at rows i) row.monic in
       let lead : Term Place = record { at = lead_at rows i; coefficient = 1 } in
-      let own : generator_degree (degrees_of rows) i ≡ term_degree target lead =
-      (subst (IsHomogeneous target (generator_degree (degrees_of rows) i)) shape row.vector.homogeneous).0.1 in
-      let sums : exponent_sum t.at.monomial ≡ exponent_sum (lead_at rows i).monomial + exponent_sum (quotient t.at.monomial (lead_at rows i).monomial) =
-      ap exponent_sum (sym (product-quotient t.at.monomial (lead_at rows i).monomial divides.1)) ∙ exponent_sum-product (lead_at rows i).monomial (quotient t.at.monomial (lead_at rows i).monomial) in
+      let own : generator_degree (degrees_of rows) i ≡ term_degree ring.weights target lead =
+      (subst (IsHomogeneous ring.weights target (generator_degree (degrees_of rows) i)) shape row.vector.homogeneous).0.1 in
+      let sums : monomial_degree ring.weights t.at.monomial ≡ monomial_degree ring.weights (lead_at rows i).monomial + monomial_degree ring.weights (quotient t.at.monomial (lead_at rows i).monomial) =
+      ap (monomial_degree ring.weights) (sym (product-quotient t.at.monomial (lead_at rows i).monomial divides.1)) ∙ monomial_degree-product ring.weights (lead_at rows i).monomial (quotient t.at.monomial (lead_at rows i).monomial) in
       let position : generator_degree target t.at.position ≡ generator_degree target (lead_at rows i).position = ap (generator_degree target) (sym divides.0) in (
         rw length-map within,
         degrees d (generator_degree (degrees_of rows) i) (generator_degree target t.at.position) (generator_degree target (lead_at rows i).position) _ _ _ h.1 own position sums,

@@ -6,15 +6,16 @@ use Rattle.std.proofs.lemmas.List.{length-map}
 use Rattle.sf_algebra.specs.DegreeParts.{degree_part, has_degree}
 use Rattle.sf_algebra.specs.Matrices.{Matrix, IsMatrix, row_degrees}
 use Rattle.sf_algebra.specs.MatrixOperations.{row_at}
-use Rattle.sf_algebra.specs.Monomials.{Monomial, exponent_sum}
+use Rattle.sf_algebra.specs.Monomials.{Monomial, monomial_degree}
 use Rattle.sf_algebra.specs.Multiples.{place_product}
+use Rattle.sf_algebra.specs.Rings.{Weights, IsRing}
 use Rattle.sf_algebra.specs.Terms.{Term}
 use Rattle.sf_algebra.specs.Vectors.{Place, generator_degree, IsHomogeneous, IsTermOfDegree}
 use Rattle.sf_algebra.proofs.Degrees.{IsHomogeneous-row_at, IsHomogeneous-row_combination}
 use Rattle.sf_algebra.proofs.DegreeParts.{IsHomogeneous-degree_part, row_combination-degree_part}
 use Rattle.sf_algebra.proofs.Filters.{AllByRecursion-filter_keeps}
 use Rattle.sf_algebra.proofs.HomogeneousVectors.{HasHomogeneousRows-from_IsMatrix}
-use Rattle.sf_algebra.proofs.Products.{exponent_sum-product}
+use Rattle.sf_algebra.proofs.Products.{monomial_degree-product}
 use Rattle.sf_groebner.specs.Criterion.{HasImageBelow, HaveLeadsAtOnePosition, IsMonicRow, ReducesToZero, image, lcm_place, lead_at, lead_place, pair_place, pair_terms, place_degree}
 use Rattle.sf_groebner.specs.ReducedBases.{IsMonic}
 use Rattle.sf_groebner.proofs.Items.{AllByRecursion-both}
@@ -24,38 +25,38 @@ use Rattle.sf_groebner.proofs.MonicRows.{IsMonicRow-row_at}
 use Rattle.sf_groebner.proofs.Pairs.{image-pair_place, lcm_place-comm}
 
 -- a place for a row whose degree is d
-abbrev pub HasPlaceOfDegree : List ℤ → ℤ → Place → Type 0
-HasPlaceOfDegree degrees d k = (k.position < length degrees) × (d ≡ place_degree degrees k)
+abbrev pub HasPlaceOfDegree : Weights → List ℤ → ℤ → Place → Type 0
+HasPlaceOfDegree weights degrees d k = (k.position < length degrees) × (d ≡ place_degree weights degrees k)
 
 -- a product with a monomial has the sum of the degrees
-pub place_degree-product : (degrees : List ℤ) (a : Monomial) (k : Place) → place_degree degrees (place_product a k) ≡ place_degree degrees k +ℤ pos (exponent_sum a)
-place_degree-product degrees a k = omega (arith, ints, exponent_sum-product a k.monomial)
+pub place_degree-product : (weights : Weights) (degrees : List ℤ) (a : Monomial) (k : Place) → place_degree weights degrees (place_product a k) ≡ place_degree weights degrees k +ℤ pos (monomial_degree weights a)
+place_degree-product weights degrees a k = omega (arith, ints, monomial_degree-product weights a k.monomial)
 
 -- the lead of a homogeneous list has its degree
-place_degree-lead : (target : List ℤ) (d : ℤ) (ts : List (Term Place)) → IsMonic ts → IsHomogeneous target d ts → d ≡ place_degree target (lead_place ts)
-place_degree-lead target d [] monic h = absurd monic
-place_degree-lead target d (t ∷ ts) monic h = h.0.1
+place_degree-lead : (weights : Weights) (target : List ℤ) (d : ℤ) (ts : List (Term Place)) → IsMonic ts → IsHomogeneous weights target d ts → d ≡ place_degree weights target (lead_place ts)
+place_degree-lead weights target d [] monic h = absurd monic
+place_degree-lead weights target d (t ∷ ts) monic h = h.0.1
 
-module _ (m : Matrix) (is_matrix : IsMatrix m) (monic : AllByRecursion (IsMonicRow m.modulus) m.rows) where
+module _ (m : Matrix) (is_matrix : IsMatrix m) (monic : AllByRecursion (IsMonicRow m.ring) m.rows) where
   -- an image has the degree of the coefficient's place
-  pub place_degree-image : (k : Place) → k.position < length m.rows → place_degree m.target (image (lead_at m.rows) k) ≡ place_degree (row_degrees m) k
+  pub place_degree-image : (k : Place) → k.position < length m.rows → place_degree m.ring.weights m.target (image (lead_at m.rows) k) ≡ place_degree m.ring.weights (row_degrees m) k
   place_degree-image k within =
-      place_degree-product m.target k.monomial (lead_at m.rows k.position)
-      ∙ ap (λ d. d +ℤ pos (exponent_sum k.monomial))
+      place_degree-product m.ring.weights m.target k.monomial (lead_at m.rows k.position)
+      ∙ ap (λ d. d +ℤ pos (monomial_degree m.ring.weights k.monomial))
       (sym
-      (place_degree-lead m.target (generator_degree (row_degrees m) k.position) (row_at m.rows k.position) (IsMonicRow-row_at m.modulus m.rows monic k.position within).1
-      (IsHomogeneous-row_at m.target m.rows (HasHomogeneousRows-from_IsMatrix m is_matrix) k.position)))
+      (place_degree-lead m.ring.weights m.target (generator_degree (row_degrees m) k.position) (row_at m.rows k.position) (IsMonicRow-row_at m.ring m.rows monic k.position within).1
+      (IsHomogeneous-row_at m.ring.weights m.target m.rows (HasHomogeneousRows-from_IsMatrix m is_matrix) k.position)))
 
   -- the degree of a pair of rows: that of the least common multiple of their leads
-  pub place_degree-pair_place : (i j : ℕ) → i < length m.rows → place_degree (row_degrees m) (pair_place (lead_at m.rows) i j) ≡ place_degree m.target (lcm_place (lead_at m.rows) i j)
-  place_degree-pair_place i j within = sym (place_degree-image (pair_place (lead_at m.rows) i j) within) ∙ ap (place_degree m.target) (image-pair_place (lead_at m.rows) i j)
+  pub place_degree-pair_place : (i j : ℕ) → i < length m.rows → place_degree m.ring.weights (row_degrees m) (pair_place (lead_at m.rows) i j) ≡ place_degree m.ring.weights m.target (lcm_place (lead_at m.rows) i j)
+  place_degree-pair_place i j within = sym (place_degree-image (pair_place (lead_at m.rows) i j) within) ∙ ap (place_degree m.ring.weights m.target) (image-pair_place (lead_at m.rows) i j)
 
-  module _ (positive : 0 < m.modulus) (i j : ℕ) (i_in : i < length m.rows) (j_in : j < length m.rows) (positions : HaveLeadsAtOnePosition m.rows i j) (f : ℤ)
-      (of_pair : f ≡ place_degree (row_degrees m) (pair_place (lead_at m.rows) i j)) where
+  module _ (positive : IsRing m.ring) (i j : ℕ) (i_in : i < length m.rows) (j_in : j < length m.rows) (positions : HaveLeadsAtOnePosition m.rows i j) (f : ℤ)
+      (of_pair : f ≡ place_degree m.ring.weights (row_degrees m) (pair_place (lead_at m.rows) i j)) where
     within : (k : ℕ) → k < length m.rows → k < length (row_degrees m)
     within k h = simp length-map h
 
-    pub IsHomogeneous-pair_terms : IsHomogeneous (row_degrees m) f (pair_terms m.modulus (lead_at m.rows) i j)
+    pub IsHomogeneous-pair_terms : IsHomogeneous m.ring.weights (row_degrees m) f (pair_terms m.ring.modulus (lead_at m.rows) i j)
     IsHomogeneous-pair_terms = (
       (within i i_in, of_pair),
       (
@@ -63,7 +64,7 @@ module _ (m : Matrix) (is_matrix : IsMatrix m) (monic : AllByRecursion (IsMonicR
           within j j_in,
           of_pair
               ∙ place_degree-pair_place i j i_in
-              ∙ ap (place_degree m.target) (lcm_place-comm (lead_at m.rows) i j positions)
+              ∙ ap (place_degree m.ring.weights m.target) (lcm_place-comm (lead_at m.rows) i j positions)
               ∙ sym (place_degree-pair_place j i j_in),
         ),
         tt,
@@ -71,27 +72,27 @@ module _ (m : Matrix) (is_matrix : IsMatrix m) (monic : AllByRecursion (IsMonicR
     )
 
     -- steps of the degree of the pair
-    pub ReducesToZero-degree : ReducesToZero m.modulus m.rows i j → (r : ReducesToZero m.modulus m.rows i j) × IsHomogeneous (row_degrees m) f r.steps
+    pub ReducesToZero-degree : ReducesToZero m.ring m.rows i j → (r : ReducesToZero m.ring m.rows i j) × IsHomogeneous m.ring.weights (row_degrees m) f r.steps
     ReducesToZero-degree h =
         let rows_homogeneous = HasHomogeneousRows-from_IsMatrix m is_matrix in
-        let pair_homogeneous = IsHomogeneous-row_combination m.target m.modulus m.rows rows_homogeneous f (pair_terms m.modulus (lead_at m.rows) i j) IsHomogeneous-pair_terms in (
+        let pair_homogeneous = IsHomogeneous-row_combination m.target m.ring m.rows rows_homogeneous f (pair_terms m.ring.modulus (lead_at m.rows) i j) IsHomogeneous-pair_terms in (
           record {
-            steps = degree_part (row_degrees m) f h.steps;
-            below = AllByRecursion-filter_keeps _ (has_degree (row_degrees m) f) h.steps h.below;
-            value = row_combination-degree_part m.target f m.modulus m.rows rows_homogeneous positive h.steps (subst (IsHomogeneous m.target f) (sym h.value) pair_homogeneous) ∙ h.value;
+            steps = degree_part m.ring.weights (row_degrees m) f h.steps;
+            below = AllByRecursion-filter_keeps _ (has_degree m.ring.weights (row_degrees m) f) h.steps h.below;
+            value = row_combination-degree_part m.target f m.ring m.rows rows_homogeneous positive.modulus h.steps (subst (IsHomogeneous m.ring.weights m.target f) (sym h.value) pair_homogeneous) ∙ h.value;
           },
-          IsHomogeneous-degree_part (row_degrees m) f h.steps,
+          IsHomogeneous-degree_part m.ring.weights (row_degrees m) f h.steps,
         )
 
     -- so times a monomial it is settled in the degree of the product
-    pub settled_in_degree : ReducesToZero m.modulus m.rows i j → (a : Monomial)
-        → IsSettled m.modulus (λ u. HasPlaceOfDegree (row_degrees m) (f +ℤ pos (exponent_sum a)) (place_product a u)) (lead_at m.rows) (IsZero m.modulus positive m.rows)
+    pub settled_in_degree : ReducesToZero m.ring m.rows i j → (a : Monomial)
+        → IsSettled m.ring (λ u. HasPlaceOfDegree m.ring.weights (row_degrees m) (f +ℤ pos (monomial_degree m.ring.weights a)) (place_product a u)) (lead_at m.rows) (IsZero m.ring positive m.rows)
         (pair_place (lead_at m.rows) i j) (pair_place (lead_at m.rows) j i)
     settled_in_degree h a =
         let r = ReducesToZero-degree h in
-        settled-reduces m.modulus positive m.rows (λ u. HasPlaceOfDegree (row_degrees m) (f +ℤ pos (exponent_sum a)) (place_product a u)) (lead_at m.rows) i j positions r.0.steps
+        settled-reduces m.ring positive m.rows (λ u. HasPlaceOfDegree m.ring.weights (row_degrees m) (f +ℤ pos (monomial_degree m.ring.weights a)) (place_product a u)) (lead_at m.rows) i j positions r.0.steps
         (AllByRecursion-both _ _ _
-        (λ (u : Term Place) (below : HasImageBelow m.rows (lcm_place (lead_at m.rows) i j) u) (degree : IsTermOfDegree (row_degrees m) f u).
-        ((degree.0, ap (λ g. g +ℤ pos (exponent_sum a)) degree.1 ∙ sym (place_degree-product (row_degrees m) a u.at)), below.1))
+        (λ (u : Term Place) (below : HasImageBelow m.ring.weights m.rows (lcm_place (lead_at m.rows) i j) u) (degree : IsTermOfDegree m.ring.weights (row_degrees m) f u).
+        ((degree.0, ap (λ g. g +ℤ pos (monomial_degree m.ring.weights a)) degree.1 ∙ sym (place_degree-product m.ring.weights (row_degrees m) a u.at)), below.1))
         r.0.steps r.0.below r.1)
         r.0.value

@@ -3,6 +3,7 @@ use Rattle.std.proofs.Common.{◌≡◌, ℕ, ◌<◌, List, ◌++◌, length, m
 use Rattle.std.specs.List.{AllByRecursion}
 use Rattle.sf_algebra.specs.Matrices.{Matrix, IsMatrix, row_degrees}
 use Rattle.sf_algebra.specs.Multiples.{place_product, term_product}
+use Rattle.sf_algebra.specs.Rings.{Ring, IsRing}
 use Rattle.sf_algebra.specs.Sums.{normal, add}
 use Rattle.sf_algebra.specs.Terms.{Term}
 use Rattle.sf_algebra.specs.Vectors.{Place, Vector, place_cmp, IsTermOfDegree}
@@ -20,56 +21,56 @@ use Rattle.sf_groebner.proofs.Multiplied.{EachPlace-constant}
 use Rattle.sf_groebner.proofs.PairDegrees.{HasPlaceOfDegree, IsHomogeneous-pair_terms, ReducesToZero-degree}
 use Rattle.sf_groebner.proofs.Schreyer.{SameTotals-from_sum}
 
-module _ (p : ℕ) (positive : 0 < p) (rows : List Vector) (i j : ℕ) where
+module _ (ring : Ring) (positive : IsRing ring) (rows : List Vector) (i j : ℕ) where
   -- the coefficients of a pair without the steps
   abbrev pub pair_difference : List (Term Place) → List (Term Place)
-  pair_difference steps = pair_terms p (lead_at rows) i j ++ map (term_product place_product p (negative_one_term p)) steps
+  pair_difference steps = pair_terms ring.modulus (lead_at rows) i j ++ map (term_product place_product ring.modulus (negative_one_term ring.modulus)) steps
 
-  add-pair_difference : (steps : List (Term Place)) → add place_cmp p (normal place_cmp p (pair_difference steps)) steps ≡ normal place_cmp p (pair_terms p (lead_at rows) i j)
+  add-pair_difference : (steps : List (Term Place)) → add (place_cmp ring.weights) ring.modulus (normal (place_cmp ring.weights) ring.modulus (pair_difference steps)) steps ≡ normal (place_cmp ring.weights) ring.modulus (pair_terms ring.modulus (lead_at rows) i j)
   unfolding add
   add-pair_difference steps =
-      let minus : List (Term Place) = map (term_product place_product p (negative_one_term p)) steps in
-      let terms = pair_terms p (lead_at rows) i j in
-      normal-SameTotals place_cmp place_cmp_linear p positive
-      (SameTotals-trans p (SameTotals-append p (SameTotals-normal place_cmp place_cmp_linear p (terms ++ minus)) (SameTotals-refl p steps))
-      (SameTotals-trans p (SameTotals-equal p _ _ (append_assoc terms minus steps))
-      (SameTotals-trans p
-      (SameTotals-append p (SameTotals-refl p terms) (SameTotals-trans p (SameTotals-swap p minus steps) (SameTotals-negative place_keys p positive steps)))
-      (SameTotals-equal p _ _ (append-nil terms)))))
+      let minus : List (Term Place) = map (term_product place_product ring.modulus (negative_one_term ring.modulus)) steps in
+      let terms = pair_terms ring.modulus (lead_at rows) i j in
+      normal-SameTotals (place_cmp ring.weights) (place_cmp_linear ring.weights) ring.modulus positive.modulus
+      (SameTotals-trans ring.modulus (SameTotals-append ring.modulus (SameTotals-normal (place_cmp ring.weights) (place_cmp_linear ring.weights) ring.modulus (terms ++ minus)) (SameTotals-refl ring.modulus steps))
+      (SameTotals-trans ring.modulus (SameTotals-equal ring.modulus _ _ (append_assoc terms minus steps))
+      (SameTotals-trans ring.modulus
+      (SameTotals-append ring.modulus (SameTotals-refl ring.modulus terms) (SameTotals-trans ring.modulus (SameTotals-swap ring.modulus minus steps) (SameTotals-negative (place_keys ring.weights) ring.modulus positive.modulus steps)))
+      (SameTotals-equal ring.modulus _ _ (append-nil terms)))))
 
-  pub IsPairSyzygy-ReducesToZero : (h : ReducesToZero p rows i j) → IsPairSyzygy p rows i j (normal place_cmp p (pair_difference h.steps))
+  pub IsPairSyzygy-ReducesToZero : (h : ReducesToZero ring rows i j) → IsPairSyzygy ring rows i j (normal (place_cmp ring.weights) ring.modulus (pair_difference h.steps))
   IsPairSyzygy-ReducesToZero h = record {
     steps = h.steps;
     below = h.below;
     sum = add-pair_difference h.steps;
-    zero = row_combination-SameTotals p positive rows (SameTotals-normal place_cmp place_cmp_linear p (pair_difference h.steps))
-        ∙ row_combination-difference p positive rows (pair_terms p (lead_at rows) i j) h.steps (sym h.value);
+    zero = row_combination-SameTotals ring positive rows (SameTotals-normal (place_cmp ring.weights) (place_cmp_linear ring.weights) ring.modulus (pair_difference h.steps))
+        ∙ row_combination-difference ring positive rows (pair_terms ring.modulus (lead_at rows) i j) h.steps (sym h.value);
   }
 
-  pub ReducesToZero-IsPairSyzygy : (z : List (Term Place)) → IsPairSyzygy p rows i j z → ReducesToZero p rows i j
+  pub ReducesToZero-IsPairSyzygy : (z : List (Term Place)) → IsPairSyzygy ring rows i j z → ReducesToZero ring rows i j
   ReducesToZero-IsPairSyzygy z h = record {
     steps = h.steps;
     below = h.below;
-    value = sym (row_combination-append_zero_first p positive rows z h.steps h.zero)
-        ∙ row_combination-SameTotals p positive rows (SameTotals-from_sum p z h.steps (pair_terms p (lead_at rows) i j) h.sum);
+    value = sym (row_combination-append_zero_first ring positive rows z h.steps h.zero)
+        ∙ row_combination-SameTotals ring positive rows (SameTotals-from_sum ring z h.steps (pair_terms ring.modulus (lead_at rows) i j) h.sum);
   }
 
 -- a homogeneous syzygy
-pub homogeneous_syzygy : (m : Matrix) → IsMatrix m → AllByRecursion (IsMonicRow m.modulus) m.rows → 0 < m.modulus → (i j : ℕ) → i < length m.rows → j < length m.rows → HaveLeadsAtOnePosition m.rows i j
-    → ReducesToZero m.modulus m.rows i j → (z : Vector) × IsSyzygy m z × IsPairSyzygy m.modulus m.rows i j z.terms
+pub homogeneous_syzygy : (m : Matrix) → IsMatrix m → AllByRecursion (IsMonicRow m.ring) m.rows → IsRing m.ring → (i j : ℕ) → i < length m.rows → j < length m.rows → HaveLeadsAtOnePosition m.rows i j
+    → ReducesToZero m.ring m.rows i j → (z : Vector) × IsSyzygy m z × IsPairSyzygy m.ring m.rows i j z.terms
 homogeneous_syzygy m is_matrix monic positive i j i_in j_in positions h =
-    let d = place_degree (row_degrees m) (pair_place (lead_at m.rows) i j) in
+    let d = place_degree m.ring.weights (row_degrees m) (pair_place (lead_at m.rows) i j) in
     let r = ReducesToZero-degree m is_matrix monic positive i j i_in j_in positions d refl h in
-    let z = normal place_cmp m.modulus (pair_difference m.modulus positive m.rows i j r.0.steps) in
-    let syzygy = IsPairSyzygy-ReducesToZero m.modulus positive m.rows i j r.0 in (
+    let z = normal (place_cmp m.ring.weights) m.ring.modulus (pair_difference m.ring positive m.rows i j r.0.steps) in
+    let syzygy = IsPairSyzygy-ReducesToZero m.ring positive m.rows i j r.0 in (
       record { degree = d; terms = z },
       record {
         coefficients = record {
-          canonical = IsCanonical-normal place_cmp place_cmp_linear m.modulus positive (pair_difference m.modulus positive m.rows i j r.0.steps);
-          homogeneous = IsHomogeneous-normal (row_degrees m) m.modulus d (pair_difference m.modulus positive m.rows i j r.0.steps)
-              (AllByRecursion-append (IsTermOfDegree (row_degrees m) d) (pair_terms m.modulus (lead_at m.rows) i j) _
+          canonical = IsCanonical-normal (place_cmp m.ring.weights) (place_cmp_linear m.ring.weights) m.ring.modulus positive.modulus (pair_difference m.ring positive m.rows i j r.0.steps);
+          homogeneous = IsHomogeneous-normal (row_degrees m) m.ring d (pair_difference m.ring positive m.rows i j r.0.steps)
+              (AllByRecursion-append (IsTermOfDegree m.ring.weights (row_degrees m) d) (pair_terms m.ring.modulus (lead_at m.rows) i j) _
               (IsHomogeneous-pair_terms m is_matrix monic positive i j i_in j_in positions d refl)
-              (EachPlace-constant (HasPlaceOfDegree (row_degrees m) d) m.modulus _ r.0.steps r.1));
+              (EachPlace-constant (HasPlaceOfDegree m.ring.weights (row_degrees m) d) m.ring.modulus _ r.0.steps r.1));
         };
         zero = syzygy.zero;
       },

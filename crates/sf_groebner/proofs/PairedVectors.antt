@@ -6,7 +6,8 @@ use Rattle.std.specs.declared.cmp.Ordering.TheVariants.{Less}
 use Rattle.std.specs.List.{AllByRecursion}
 use Rattle.std.proofs.lemmas.Bool.{cases_lt}
 use Rattle.sf_algebra.specs.MatrixOperations.{part_terms, moved}
-use Rattle.sf_algebra.specs.Monomials.{exponent_sum}
+use Rattle.sf_algebra.specs.Monomials.{monomial_degree}
+use Rattle.sf_algebra.specs.Rings.{Ring, Weights}
 use Rattle.sf_algebra.specs.Terms.{Term, IsDescending, IsCanonical}
 use Rattle.sf_algebra.specs.Vectors.{Place, place_cmp, IsTermOfDegree, IsHomogeneous, IsVector}
 use Rattle.sf_algebra.proofs.KroneckerUnits.{IsCanonical-moved}
@@ -44,54 +45,54 @@ part_terms-pair_last n k us vs h l =
     part_terms-append n (n + k) us (moved n vs)
     ∙ (λ i. part_terms-before n (n + k) us h i ++ part_terms-moved n k vs l i)
 
-IsDescending-append : (us vs : List (Term Place)) → IsDescending place_cmp us → IsDescending place_cmp vs → AllByRecursion (λ u. AllByRecursion (λ v. place_cmp v.at u.at ≡ Less) vs) us → IsDescending place_cmp (us ++ vs)
-IsDescending-append [] vs h k below = k
-IsDescending-append (u ∷ us) vs h k below = (AllByRecursion-append _ us vs h.0 below.0, IsDescending-append us vs h.1 k below.1)
+IsDescending-append : (weights : Weights) (us vs : List (Term Place)) → IsDescending (place_cmp weights) us → IsDescending (place_cmp weights) vs → AllByRecursion (λ u. AllByRecursion (λ v. place_cmp weights v.at u.at ≡ Less) vs) us → IsDescending (place_cmp weights) (us ++ vs)
+IsDescending-append weights [] vs h k below = k
+IsDescending-append weights (u ∷ us) vs h k below = (AllByRecursion-append _ us vs h.0 below.0, IsDescending-append weights us vs h.1 k below.1)
 
-pub IsCanonical-pair : (p n : ℕ) (us vs : List (Term Place)) → IsWithin n us → IsCanonical place_cmp p us → IsCanonical place_cmp p vs → IsCanonical place_cmp p (pair_terms n us vs)
-IsCanonical-pair p n us vs within h k =
-    let shifted = IsCanonical-moved p n vs k in
+pub IsCanonical-pair : (ring : Ring) (n : ℕ) (us vs : List (Term Place)) → IsWithin n us → IsCanonical (place_cmp ring.weights) ring.modulus us → IsCanonical (place_cmp ring.weights) ring.modulus vs → IsCanonical (place_cmp ring.weights) ring.modulus (pair_terms n us vs)
+IsCanonical-pair ring n us vs within h k =
+    let shifted = IsCanonical-moved ring n vs k in
     record {
-      descending = IsDescending-append us (moved n vs) h.descending shifted.descending
+      descending = IsDescending-append ring.weights us (moved n vs) h.descending shifted.descending
           (AllByRecursion-weaken _ _
-          (λ u near. AllByRecursion-weaken _ _ (λ v far. place_cmp-later v.at u.at (let a : u.at.position < n = near in let b : n ≤ v.at.position = far in omega arith)) (moved n vs) (moved_past n vs))
+          (λ u near. AllByRecursion-weaken _ _ (λ v far. place_cmp-later ring.weights v.at u.at (let a : u.at.position < n = near in let b : n ≤ v.at.position = far in omega arith)) (moved n vs) (moved_past n vs))
           us within);
       residues = AllByRecursion-append _ us (moved n vs) h.residues shifted.residues;
     }
 
 module _ (target source : List ℤ) (d : ℤ) where
-  first_degrees : (us : List (Term Place)) → IsHomogeneous target d us → IsHomogeneous (target ++ source) d us
-  first_degrees us h =
-      AllByRecursion-weaken (IsTermOfDegree target d) (IsTermOfDegree (target ++ source) d)
+  first_degrees : (weights : Weights) (us : List (Term Place)) → IsHomogeneous weights target d us → IsHomogeneous weights (target ++ source) d us
+  first_degrees weights us h =
+      AllByRecursion-weaken (IsTermOfDegree weights target d) (IsTermOfDegree weights (target ++ source) d)
       (λ t k. let within : t.at.position < length target = k.0 in (
         rw length-append (omega arith),
-        k.1 ∙ ap (λ e. e +ℤ pos (exponent_sum t.at.monomial)) (sym (get_or-append target source (pos 0) t.at.position within)),
+        k.1 ∙ ap (λ e. e +ℤ pos (monomial_degree weights t.at.monomial)) (sym (get_or-append target source (pos 0) t.at.position within)),
       ))
       us h
 
-  last_degrees : (vs : List (Term Place)) → IsHomogeneous source d vs → IsHomogeneous (target ++ source) d (moved (length target) vs)
-  last_degrees [] h = tt
-  last_degrees (v ∷ vs) h = (
+  last_degrees : (weights : Weights) (vs : List (Term Place)) → IsHomogeneous weights source d vs → IsHomogeneous weights (target ++ source) d (moved (length target) vs)
+  last_degrees weights [] h = tt
+  last_degrees weights (v ∷ vs) h = (
     (
       let within : v.at.position < length source = h.0.0 in rw length-append (omega arith),
-      h.0.1 ∙ ap (λ e. e +ℤ pos (exponent_sum v.at.monomial)) (sym (get_or-append-add target source v.at.position (pos 0))),
+      h.0.1 ∙ ap (λ e. e +ℤ pos (monomial_degree weights v.at.monomial)) (sym (get_or-append-add target source v.at.position (pos 0))),
     ),
-    last_degrees vs h.1,
+    last_degrees weights vs h.1,
   )
 
-  pub IsVector-pair : (p : ℕ) (us vs : List (Term Place)) → IsVector p target (record { degree = d; terms = us }) → IsVector p source (record { degree = d; terms = vs })
-      → IsVector p (target ++ source) (record { degree = d; terms = pair_terms (length target) us vs })
-  IsVector-pair p us vs h k = record {
-    canonical = IsCanonical-pair p (length target) us vs (AllByRecursion-weaken _ _ (λ t e. e.0) us h.homogeneous) h.canonical k.canonical;
-    homogeneous = AllByRecursion-append _ us (moved (length target) vs) (first_degrees us h.homogeneous) (last_degrees vs k.homogeneous);
+  pub IsVector-pair : (ring : Ring) (us vs : List (Term Place)) → IsVector ring target (record { degree = d; terms = us }) → IsVector ring source (record { degree = d; terms = vs })
+      → IsVector ring (target ++ source) (record { degree = d; terms = pair_terms (length target) us vs })
+  IsVector-pair ring us vs h k = record {
+    canonical = IsCanonical-pair ring (length target) us vs (AllByRecursion-weaken _ _ (λ t e. e.0) us h.homogeneous) h.canonical k.canonical;
+    homogeneous = AllByRecursion-append _ us (moved (length target) vs) (first_degrees ring.weights us h.homogeneous) (last_degrees ring.weights vs k.homogeneous);
   }
 
 -- each vector over both is a pair of its parts
-pub pair_terms-parts : (n k : ℕ) (ts : List (Term Place)) → IsDescending place_cmp ts → IsWithin (n + k) ts → pair_terms n (part_terms 0 n ts) (part_terms n (n + k) ts) ≡ ts
-pair_terms-parts n k [] h within = refl
-pair_terms-parts n k (t ∷ ts) h within =
+pub pair_terms-parts : (weights : Weights) (n k : ℕ) (ts : List (Term Place)) → IsDescending (place_cmp weights) ts → IsWithin (n + k) ts → pair_terms n (part_terms 0 n ts) (part_terms n (n + k) ts) ≡ ts
+pair_terms-parts weights n k [] h within = refl
+pair_terms-parts weights n k (t ∷ ts) h within =
     let inside : t.at.position < n + k = within.0 in
-    let rest = pair_terms-parts n k ts h.1 within.1 in
+    let rest = pair_terms-parts weights n k ts h.1 within.1 in
     elim (cases_lt t.at.position n) [
       | inl before ↦
           let same : t.at.position - 0 ≡ t.at.position = omega arith in
@@ -99,7 +100,7 @@ pair_terms-parts n k (t ∷ ts) h within =
           ∙ (λ i. record { at = record { position = same i; monomial = t.at.monomial }; coefficient = t.coefficient } ∷ rest i)
       | inr reached ↦
           let same : n + (t.at.position - n) ≡ t.at.position = omega arith in
-          let none : part_terms 0 n ts ≡ [] = part_terms-past n ts (later_positions n t ts h reached).1 in
+          let none : part_terms 0 n ts ≡ [] = part_terms-past n ts (later_positions weights n t ts h reached).1 in
           (λ i. pair_terms n (part_terms-outside 0 n t ts (inr reached) i) (part_terms-inside n (n + k) t ts reached inside i))
           ∙ ap (λ us. us ++ (record { at = record { position = n + (t.at.position - n); monomial = t.at.monomial }; coefficient = t.coefficient } ∷ moved n (part_terms n (n + k) ts))) none
           ∙ (λ i. record { at = record { position = same i; monomial = t.at.monomial }; coefficient = t.coefficient } ∷ (sym (ap (λ us. us ++ moved n (part_terms n (n + k) ts)) none) ∙ rest) i)

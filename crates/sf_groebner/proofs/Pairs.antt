@@ -4,6 +4,7 @@ use Rattle.std.proofs.lemmas.Bool.{cases_lt}
 use Rattle.sf_algebra.specs.Divisibility.{quotient, lcm}
 use Rattle.sf_algebra.specs.Monomials.{Monomial, product}
 use Rattle.sf_algebra.specs.Multiples.{place_product}
+use Rattle.sf_algebra.specs.Rings.{Ring, IsRing}
 use Rattle.sf_algebra.specs.Terms.{Term}
 use Rattle.sf_algebra.specs.Vectors.{Place}
 use Rattle.sf_algebra.proofs.Divisors.{product-cancel, same_exponents, same_monomial}
@@ -66,39 +67,39 @@ module _ (lead : ℕ → Place) where
         ∙ product-comm k.monomial (lead k.position).monomial) in
         λ i. record { position = same i; monomial = monomials i }
 
-module _ (p : ℕ) (S : List (Term Place) → Type 0) (is_module : IsModule p S) (In : Place → Type 0) (lead : ℕ → Place) where
+module _ (ring : Ring) (S : List (Term Place) → Type 0) (is_module : IsModule ring.modulus S) (In : Place → Type 0) (lead : ℕ → Place) where
   -- a pair of places, by the pair of their rows
   pub settled_pair : (j k : Place) → image lead j ≡ image lead k
-      → IsSettled p (λ u. In (place_product (cofactor lead j k) u)) lead S (pair_place lead j.position k.position) (pair_place lead k.position j.position)
-      → IsSettled p In lead S j k
+      → IsSettled ring (λ u. In (place_product (cofactor lead j k) u)) lead S (pair_place lead j.position k.position) (pair_place lead k.position j.position)
+      → IsSettled ring In lead S j k
   settled_pair j k e h =
-      subst (λ l. IsSettled p In lead S l k) (place_product-pair_place_first lead j k e)
-      (subst (IsSettled p In lead S (place_product (cofactor lead j k) (pair_place lead j.position k.position))) (place_product-pair_place_second lead j k e)
-      (IsSettled-product p S is_module In lead (cofactor lead j k) (pair_place lead j.position k.position) (pair_place lead k.position j.position) h))
+      subst (λ l. IsSettled ring In lead S l k) (place_product-pair_place_first lead j k e)
+      (subst (IsSettled ring In lead S (place_product (cofactor lead j k) (pair_place lead j.position k.position))) (place_product-pair_place_second lead j k e)
+      (IsSettled-product ring S is_module In lead (cofactor lead j k) (pair_place lead j.position k.position) (pair_place lead k.position j.position) h))
 
   -- all pairs of places, by the pairs of an earlier and a later row
-  pub settled_pairs : 0 < p
+  pub settled_pairs : IsRing ring
       → ((j k : Place) → In j → In k → image lead j ≡ image lead k → j.position < k.position
-      → IsSettled p (λ u. In (place_product (cofactor lead j k) u)) lead S (pair_place lead j.position k.position) (pair_place lead k.position j.position))
-      → IsAllSettled p In lead S
+      → IsSettled ring (λ u. In (place_product (cofactor lead j k) u)) lead S (pair_place lead j.position k.position) (pair_place lead k.position j.position))
+      → IsAllSettled ring In lead S
   settled_pairs positive pairs j k j_in k_in e =
       elim (cases_lt j.position k.position) [
         | inl earlier ↦ settled_pair j k e (pairs j k j_in k_in e earlier)
         | inr not_earlier ↦ elim (cases_lt k.position j.position) [
-          | inl later ↦ IsSettled-sym p S is_module In lead positive k j (sym e) (settled_pair k j (sym e) (pairs k j k_in j_in (sym e) later))
-          | inr not_later ↦ IsSettled-equal p S is_module In lead j k (image-one_row lead j k e (omega arith))
+          | inl later ↦ IsSettled-sym ring S is_module In lead positive k j (sym e) (settled_pair k j (sym e) (pairs k j k_in j_in (sym e) later))
+          | inr not_later ↦ IsSettled-equal ring S is_module In lead j k (image-one_row lead j k e (omega arith))
         ]
       ]
 
 -- the chain criterion: a pair is settled where the lead of a row divides its least common multiple, and its pairs with that row are settled
-pub IsSettled-chain : (p : ℕ) (S : List (Term Place) → Type 0) → IsModule p S → (In : ℕ → Type 0) (lead : ℕ → Place) (i j k : ℕ)
+pub IsSettled-chain : (ring : Ring) (S : List (Term Place) → Type 0) → IsModule ring.modulus S → (In : ℕ → Type 0) (lead : ℕ → Place) (i j k : ℕ)
     → (lead i).position ≡ (lead k).position → PlaceDivides (lead j) (lcm_place lead i k)
-    → IsSettled p (λ u. In u.position) lead S (pair_place lead i j) (pair_place lead j i) → IsSettled p (λ u. In u.position) lead S (pair_place lead j k) (pair_place lead k j)
-    → IsSettled p (λ u. In u.position) lead S (pair_place lead i k) (pair_place lead k i)
-IsSettled-chain p S is_module In lead i j k positions divides first second =
-    IsSettled-trans p S is_module (λ u. In u.position) lead start middle end (image_middle ∙ sym image_end)
-    (settled_pair p S is_module (λ u. In u.position) lead start middle (image-pair_place lead i k ∙ sym image_middle) first)
-    (settled_pair p S is_module (λ u. In u.position) lead middle end (image_middle ∙ sym image_end) second)
+    → IsSettled ring (λ u. In u.position) lead S (pair_place lead i j) (pair_place lead j i) → IsSettled ring (λ u. In u.position) lead S (pair_place lead j k) (pair_place lead k j)
+    → IsSettled ring (λ u. In u.position) lead S (pair_place lead i k) (pair_place lead k i)
+IsSettled-chain ring S is_module In lead i j k positions divides first second =
+    IsSettled-trans ring S is_module (λ u. In u.position) lead start middle end (image_middle ∙ sym image_end)
+    (settled_pair ring S is_module (λ u. In u.position) lead start middle (image-pair_place lead i k ∙ sym image_middle) first)
+    (settled_pair ring S is_module (λ u. In u.position) lead middle end (image_middle ∙ sym image_end) second)
   where
     start : Place
     start = pair_place lead i k
@@ -116,8 +117,8 @@ IsSettled-chain p S is_module In lead i j k positions divides first second =
     image_end = image-pair_place lead k i ∙ sym (lcm_place-comm lead i k positions)
 
 -- either order of the pair of two rows
-pub IsSettled-turn : (p : ℕ) → 0 < p → (S : List (Term Place) → Type 0) → IsModule p S → (In : Place → Type 0) (lead : ℕ → Place) (i j : ℕ) → (lead i).position ≡ (lead j).position
-    → IsSettled p In lead S (pair_place lead i j) (pair_place lead j i) → IsSettled p In lead S (pair_place lead j i) (pair_place lead i j)
-IsSettled-turn p positive S is_module In lead i j positions h =
-    IsSettled-sym p S is_module In lead positive (pair_place lead i j) (pair_place lead j i)
+pub IsSettled-turn : (ring : Ring) → IsRing ring → (S : List (Term Place) → Type 0) → IsModule ring.modulus S → (In : Place → Type 0) (lead : ℕ → Place) (i j : ℕ) → (lead i).position ≡ (lead j).position
+    → IsSettled ring In lead S (pair_place lead i j) (pair_place lead j i) → IsSettled ring In lead S (pair_place lead j i) (pair_place lead i j)
+IsSettled-turn ring positive S is_module In lead i j positions h =
+    IsSettled-sym ring S is_module In lead positive (pair_place lead i j) (pair_place lead j i)
     (image-pair_place lead i j ∙ lcm_place-comm lead i j positions ∙ sym (image-pair_place lead j i)) h

@@ -4,6 +4,7 @@ use Rattle.std.proofs.Math.Nat.{zero-mod}
 use Rattle.sf_algebra.specs.MatrixOperations.{part_terms}
 use Rattle.sf_algebra.specs.Multiples.{negative, negative_term}
 use Rattle.sf_algebra.specs.Residues.{sum_mod}
+use Rattle.sf_algebra.specs.Rings.{Ring, IsRing}
 use Rattle.sf_algebra.specs.Sums.{add, total}
 use Rattle.sf_algebra.specs.Terms.{Term}
 use Rattle.sf_algebra.specs.Vectors.{Place, place_cmp}
@@ -40,32 +41,32 @@ total-part_terms : (p from to : ℕ) (g : Term Place → ℕ) (ts : List (Term P
 total-part_terms p from to g ts =
     total-map p g (moved_back from) _ ∙ total-filter (λ (t : Term Place). nat_le from t.at.position && nat_lt t.at.position to) p (λ t. g (moved_back from t)) ts
 
-module _ (p from to : ℕ) where
-  pub part_terms-add : 0 < p → (us vs : List (Term Place)) → part_terms from to (add place_cmp p us vs) ≡ add place_cmp p (part_terms from to us) (part_terms from to vs)
+module _ (ring : Ring) (from to : ℕ) where
+  pub part_terms-add : IsRing ring → (us vs : List (Term Place)) → part_terms from to (add (place_cmp ring.weights) ring.modulus us vs) ≡ add (place_cmp ring.weights) ring.modulus (part_terms from to us) (part_terms from to vs)
   part_terms-add positive us vs =
-      same_from_total place_cmp place_cmp_linear p positive _ _ (IsCanonical-part_terms p from to _ (IsCanonical-add place_cmp place_cmp_linear p positive us vs))
-      (IsCanonical-add place_cmp place_cmp_linear p positive (part_terms from to us) (part_terms from to vs))
+      same_from_total (place_cmp ring.weights) (place_cmp_linear ring.weights) ring.modulus positive.modulus _ _ (IsCanonical-part_terms ring from to _ (IsCanonical-add (place_cmp ring.weights) (place_cmp_linear ring.weights) ring.modulus positive.modulus us vs))
+      (IsCanonical-add (place_cmp ring.weights) (place_cmp_linear ring.weights) ring.modulus positive.modulus (part_terms from to us) (part_terms from to vs))
       (λ g additive.
-      total-part_terms p from to g (add place_cmp p us vs)
-      ∙ total-add place_cmp place_cmp_linear p (at_part from to g) (at_part-additive p from to g additive) us vs
-      ∙ (λ i. sum_mod p (sym (total-part_terms p from to g us) i) (sym (total-part_terms p from to g vs) i))
-      ∙ sym (total-add place_cmp place_cmp_linear p g additive (part_terms from to us) (part_terms from to vs)))
+      total-part_terms ring.modulus from to g (add (place_cmp ring.weights) ring.modulus us vs)
+      ∙ total-add (place_cmp ring.weights) (place_cmp_linear ring.weights) ring.modulus (at_part from to g) (at_part-additive ring.modulus from to g additive) us vs
+      ∙ (λ i. sum_mod ring.modulus (sym (total-part_terms ring.modulus from to g us) i) (sym (total-part_terms ring.modulus from to g vs) i))
+      ∙ sym (total-add (place_cmp ring.weights) (place_cmp_linear ring.weights) ring.modulus g additive (part_terms from to us) (part_terms from to vs)))
 
-  pub part_terms-negative : (us : List (Term Place)) → part_terms from to (negative p us) ≡ negative p (part_terms from to us)
+  pub part_terms-negative : (us : List (Term Place)) → part_terms from to (negative ring.modulus us) ≡ negative ring.modulus (part_terms from to us)
   part_terms-negative [] = refl
   part_terms-negative (u ∷ us) =
       elim (cases_between from to u.at.position) [
         | inl inside ↦
-            part_terms-inside from to (negative_term p u) (negative p us) inside.0 inside.1
-            ∙ ap (λ ts. negative_term p (moved_back from u) ∷ ts) (part_terms-negative us)
-            ∙ sym (ap (negative p) (part_terms-inside from to u us inside.0 inside.1))
+            part_terms-inside from to (negative_term ring.modulus u) (negative ring.modulus us) inside.0 inside.1
+            ∙ ap (λ ts. negative_term ring.modulus (moved_back from u) ∷ ts) (part_terms-negative us)
+            ∙ sym (ap (negative ring.modulus) (part_terms-inside from to u us inside.0 inside.1))
         | inr outside ↦
-            part_terms-outside from to (negative_term p u) (negative p us) outside
+            part_terms-outside from to (negative_term ring.modulus u) (negative ring.modulus us) outside
             ∙ part_terms-negative us
-            ∙ sym (ap (negative p) (part_terms-outside from to u us outside))
+            ∙ sym (ap (negative ring.modulus) (part_terms-outside from to u us outside))
       ]
 
   -- the part of a difference
-  pub part_terms-difference : 0 < p → (us vs : List (Term Place))
-      → part_terms from to (add place_cmp p us (negative p vs)) ≡ add place_cmp p (part_terms from to us) (negative p (part_terms from to vs))
-  part_terms-difference positive us vs = part_terms-add positive us (negative p vs) ∙ ap (add place_cmp p (part_terms from to us)) (part_terms-negative vs)
+  pub part_terms-difference : IsRing ring → (us vs : List (Term Place))
+      → part_terms from to (add (place_cmp ring.weights) ring.modulus us (negative ring.modulus vs)) ≡ add (place_cmp ring.weights) ring.modulus (part_terms from to us) (negative ring.modulus (part_terms from to vs))
+  part_terms-difference positive us vs = part_terms-add positive us (negative ring.modulus vs) ∙ ap (add (place_cmp ring.weights) ring.modulus (part_terms from to us)) (part_terms-negative vs)

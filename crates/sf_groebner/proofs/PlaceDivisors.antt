@@ -10,6 +10,7 @@ use Rattle.std.proofs.lemmas.Cmp.{tied_itself, nat_cmp_total}
 use Rattle.sf_algebra.specs.Divisibility.{Divides, quotient}
 use Rattle.sf_algebra.specs.Monomials.{Monomial, product, monomial_cmp}
 use Rattle.sf_algebra.specs.Multiples.{place_product}
+use Rattle.sf_algebra.specs.Rings.{Weights, IsPositive}
 use Rattle.sf_algebra.specs.Vectors.{Place, place_cmp}
 use Rattle.sf_algebra.proofs.Divisors.{Divides-refl, Divides-trans, Divides-antisymm, Divides-multiple, Divides-monomial_cmp, product-quotient}
 use Rattle.sf_algebra.proofs.Lists.{AllByRecursion-weaken}
@@ -59,10 +60,10 @@ place_product-quotient j k h =
     λ i. record { position = h.0 i; monomial = same i }
 
 -- a divisor is not greater
-pub PlaceDivides-place_cmp : (j k : Place) → PlaceDivides j k → place_cmp j k ≢ Greater
-PlaceDivides-place_cmp j k h greater =
+pub PlaceDivides-place_cmp : (weights : Weights) → IsPositive weights → (j k : Place) → PlaceDivides j k → place_cmp weights j k ≢ Greater
+PlaceDivides-place_cmp weights positive j k h greater =
     let same : nat_cmp k.position j.position ≡ Equal = ap (nat_cmp k.position) h.0 ∙ tied_itself nat_cmp_total k.position in
-    Divides-monomial_cmp j.monomial k.monomial h.1 (sym (ap (λ o. ordering_then o (monomial_cmp j.monomial k.monomial)) same) ∙ greater)
+    Divides-monomial_cmp weights positive j.monomial k.monomial h.1 (sym (ap (λ o. ordering_then o (monomial_cmp weights j.monomial k.monomial)) same) ∙ greater)
 
 -- a test that none of the places divides k
 pub not_divided-each : (k : Place) (ks : List Place) → IsFalse (list_any (λ j. place_divides j k) ks) → AllByRecursion (λ j. PlaceDivides j k → ⊥) ks

@@ -4,6 +4,7 @@ use Rattle.std.specs.List.{AllByRecursion}
 use Rattle.sf_algebra.specs.Matrices.{Matrix, IsMatrix, row_degrees}
 use Rattle.sf_algebra.specs.MatrixOperations.{identity, stacked}
 use Rattle.sf_algebra.specs.Primes.{IsPrime}
+use Rattle.sf_algebra.specs.Rings.{Ring, Weights, IsRing, IsOverField}
 use Rattle.sf_algebra.specs.Vectors.{Vector, IsVector}
 use Rattle.sf_algebra.proofs.HomogeneousVectors.{row_combination-identity}
 use Rattle.sf_algebra.proofs.Identities.{IsMatrix-identity, row_degrees-identity}
@@ -15,6 +16,7 @@ use Rattle.sf_groebner.specs.PresentationExistenceLaws.{IsPlaceBetween}
 use Rattle.sf_groebner.specs.Presentations.{IsModuleMap, IsPresentation, IsRelation}
 use Rattle.sf_groebner.specs.ReducedBases.{IsReducedBasis}
 use Rattle.sf_groebner.specs.Spans.{InSpan, IsSyzygy}
+use Rattle.sf_algebra.proofs.Weights.{field_ring}
 use Rattle.sf_groebner.proofs.FirstParts.{reduced-first_parts}
 use Rattle.sf_groebner.proofs.MatrixBases.{span_basis, syzygy_basis}
 use Rattle.sf_groebner.proofs.MinimalExistence.{minimal_modulo_span, minimal_modulo_zero}
@@ -23,43 +25,43 @@ use Rattle.sf_groebner.proofs.SameModules.{IsReducedBasis-same}
 use Rattle.sf_groebner.proofs.Spans.{span_module}
 
 -- a module is given by a reduced basis
-abbrev pub HasBasis : (Vector → Type 0) → Type 0
-HasBasis N = (basis : List Vector) × IsReducedBasis N basis
+abbrev pub HasBasis : Weights → (Vector → Type 0) → Type 0
+HasBasis weights N = (basis : List Vector) × IsReducedBasis weights N basis
 
 -- the relations of the rows of a modulo the span of those of b
-pub relation_basis : (a b : Matrix) → IsPrime a.modulus → a.modulus ≡ b.modulus → a.target ≡ b.target → IsMatrix a → IsMatrix b → HasBasis (IsRelation a (InSpan b))
+pub relation_basis : (a b : Matrix) → IsOverField a.ring → a.ring ≡ b.ring → a.target ≡ b.target → IsMatrix a → IsMatrix b → HasBasis a.ring.weights (IsRelation a (InSpan b))
 relation_basis a b prime moduli targets h k =
     let m = stacked a b in
-    let positive : 0 < a.modulus = omega (arith, prime.above_one) in
+    let positive : IsRing a.ring = field_ring prime in
     let s = syzygy_basis m prime (IsMatrix-stacked a b moduli targets h k) in (
       _,
-      IsReducedBasis-same (IsFirstBlock a b) (IsRelation a (InSpan b)) (λ v. (IsRelation-blocks a b positive moduli v).1) (λ v. (IsRelation-blocks a b positive moduli v).0) _
-          (reduced-first_parts m.modulus (row_degrees m) (IsSyzygy m) (λ w l. l.coefficients) (length a.rows) s.0 s.1),
+      IsReducedBasis-same a.ring.weights (IsFirstBlock a b) (IsRelation a (InSpan b)) (λ v. (IsRelation-blocks a b positive moduli v).1) (λ v. (IsRelation-blocks a b positive moduli v).0) _
+          (reduced-first_parts m.ring (row_degrees m) (IsSyzygy m) (λ w l. l.coefficients) (length a.rows) s.0 s.1),
     )
 
 -- all vectors of a free module
-pub any_basis : (p : ℕ) → IsPrime p → (degrees : List ℤ) → HasBasis (IsAny p degrees)
-any_basis p prime degrees =
-    let m = identity p degrees in
-    let positive : 0 < p = omega (arith, prime.above_one) in
-    let matrix = IsMatrix-identity p prime.above_one degrees in
+pub any_basis : (ring : Ring) → IsOverField ring → (degrees : List ℤ) → HasBasis ring.weights (IsAny ring degrees)
+any_basis ring prime degrees =
+    let m = identity ring degrees in
+    let positive : IsRing ring = field_ring prime in
+    let matrix = IsMatrix-identity ring prime.prime.above_one degrees in
     let s = span_basis m prime matrix in (
       s.0,
-      IsReducedBasis-same (InSpan m) (IsAny p degrees) (span_module m positive matrix).vectors
-          (λ v h. (v, subst (λ ds. IsVector p ds v) (sym (row_degrees-identity p degrees)) h, (λ i. record { degree = v.degree; terms = row_combination-identity p positive degrees v h i })))
+      IsReducedBasis-same ring.weights (InSpan m) (IsAny ring degrees) (span_module m positive matrix).vectors
+          (λ v h. (v, subst (λ ds. IsVector ring ds v) (sym (row_degrees-identity ring degrees)) h, (λ i. record { degree = v.degree; terms = row_combination-identity ring positive.modulus degrees v h i })))
           s.0 s.1,
     )
 
-module _ (p : ℕ) (prime : IsPrime p) (target : List ℤ) (N : Vector → Type 0) (vectors : (v : Vector) → N v → IsVector p target v) (basis : HasBasis N) where
-  presentation_modulo_rows : (rows : List Vector) → AllByRecursion (IsVector p target) rows → (generators : Matrix) × (relations : Matrix) × IsPresentation p target N (InSpan (matrix_of p target rows)) generators relations
+module _ (ring : Ring) (prime : IsOverField ring) (target : List ℤ) (N : Vector → Type 0) (vectors : (v : Vector) → N v → IsVector ring target v) (basis : HasBasis ring.weights N) where
+  presentation_modulo_rows : (rows : List Vector) → AllByRecursion (IsVector ring target) rows → (generators : Matrix) × (relations : Matrix) × IsPresentation ring target N (InSpan (matrix_of ring target rows)) generators relations
   presentation_modulo_rows rows h =
-      let base = matrix_of p target rows in
-      let g = minimal_modulo_span p target prime N vectors basis.0 basis.1 rows h in
-      let generators = matrix_of p target g.generators in
+      let base = matrix_of ring target rows in
+      let g = minimal_modulo_span ring target prime N vectors basis.0 basis.1 rows h in
+      let generators = matrix_of ring target g.generators in
       let relations_basis = relation_basis generators base prime refl refl g.vectors h in
-      let r = minimal_modulo_zero p (row_degrees generators) prime (IsRelation generators (InSpan base)) (λ c k. k.coefficients) relations_basis.0 relations_basis.1 in (
+      let r = minimal_modulo_zero ring (row_degrees generators) prime (IsRelation generators (InSpan base)) (λ c k. k.coefficients) relations_basis.0 relations_basis.1 in (
         generators,
-        matrix_of p (row_degrees generators) r.generators,
+        matrix_of ring (row_degrees generators) r.generators,
         record {
           generators_modulus = refl;
           generators_target = refl;
@@ -71,45 +73,47 @@ module _ (p : ℕ) (prime : IsPrime p) (target : List ℤ) (N : Vector → Type 
       )
 
   -- a module with a reduced basis has a presentation modulo the span of a matrix
-  pub presentation_exists : (base : Matrix) → base.modulus ≡ p → base.target ≡ target → IsMatrix base → (generators : Matrix) × (relations : Matrix) × IsPresentation p target N (InSpan base) generators relations
+  pub presentation_exists : (base : Matrix) → base.ring ≡ ring → base.target ≡ target → IsMatrix base → (generators : Matrix) × (relations : Matrix) × IsPresentation ring target N (InSpan base) generators relations
   presentation_exists base moduli targets matrix =
-      let same : matrix_of p target base.rows ≡ base = λ i. record { modulus = sym moduli i; target = sym targets i; rows = base.rows } in
-      let rows : AllByRecursion (IsVector p target) base.rows = subst (λ (m : Matrix). AllByRecursion (IsVector m.modulus m.target) base.rows) (sym same) matrix in
-      subst (λ (m : Matrix). (generators : Matrix) × (relations : Matrix) × IsPresentation p target N (InSpan m) generators relations) same (presentation_modulo_rows base.rows rows)
+      let same : matrix_of ring target base.rows ≡ base = λ i. record { ring = sym moduli i; target = sym targets i; rows = base.rows } in
+      let rows : AllByRecursion (IsVector ring target) base.rows = subst (λ (m : Matrix). AllByRecursion (IsVector m.ring m.target) base.rows) (sym same) matrix in
+      subst (λ (m : Matrix). (generators : Matrix) × (relations : Matrix) × IsPresentation ring target N (InSpan m) generators relations) same (presentation_modulo_rows base.rows rows)
 
 -- cycles are homogeneous vectors
-cycle-vector : (p : ℕ) (degrees : List ℤ) (out beyond : Matrix) → out.modulus ≡ p → row_degrees out ≡ degrees → (c : Vector) → IsCycle out beyond c → IsVector p degrees c
-cycle-vector p degrees out beyond moduli same c h = subst (λ q. IsVector q degrees c) moduli (subst (λ ds. IsVector out.modulus ds c) same h.coefficients)
+cycle-vector : (ring : Ring) (degrees : List ℤ) (out beyond : Matrix) → out.ring ≡ ring → row_degrees out ≡ degrees → (c : Vector) → IsCycle out beyond c → IsVector ring degrees c
+cycle-vector ring degrees out beyond moduli same c h = subst (λ q. IsVector q degrees c) moduli (subst (λ ds. IsVector out.ring ds c) same h.coefficients)
 
-pub homology_exists : (arriving here out beyond : Matrix) → IsPrime here.modulus → IsPlaceBetween arriving here out beyond
+pub homology_exists : (arriving here out beyond : Matrix) → IsOverField here.ring → IsPlaceBetween arriving here out beyond
     → (generators : Matrix) × (relations : Matrix) × IsHomology arriving here out beyond generators relations
 homology_exists arriving here out beyond prime h =
-    presentation_exists here.modulus prime here.target (IsCycle out beyond) (cycle-vector here.modulus here.target out beyond h.out_modulus h.out_degrees)
-    (relation_basis out beyond (subst IsPrime (sym h.out_modulus) prime) (h.out_modulus ∙ sym h.beyond_modulus) h.out_target h.out_matrix h.beyond_matrix)
+    presentation_exists here.ring prime here.target (IsCycle out beyond) (cycle-vector here.ring here.target out beyond h.out_modulus h.out_degrees)
+    (subst (λ (q : Ring). HasBasis q.weights (IsCycle out beyond)) h.out_modulus
+    (relation_basis out beyond (subst IsOverField (sym h.out_modulus) prime) (h.out_modulus ∙ sym h.beyond_modulus) h.out_target h.out_matrix h.beyond_matrix))
     (stacked arriving here) h.arriving_modulus h.arriving_target
     (IsMatrix-stacked arriving here h.arriving_modulus h.arriving_target h.arriving_matrix h.here_matrix)
 
-pub kernel_exists : (source target map : Matrix) → IsPrime source.modulus → IsMatrix source → IsMatrix target → IsModuleMap source target map
+pub kernel_exists : (source target map : Matrix) → IsOverField source.ring → IsMatrix source → IsMatrix target → IsModuleMap source target map
     → (generators : Matrix) × (relations : Matrix) × IsKernel source target map generators relations
 kernel_exists source target map prime first second h =
-    presentation_exists source.modulus prime source.target (IsCycle map target) (cycle-vector source.modulus source.target map target h.source_modulus h.source_degrees)
-    (relation_basis map target (subst IsPrime (sym h.source_modulus) prime) h.target_modulus h.target_degrees h.matrix second)
+    presentation_exists source.ring prime source.target (IsCycle map target) (cycle-vector source.ring source.target map target h.source_modulus h.source_degrees)
+    (subst (λ (q : Ring). HasBasis q.weights (IsCycle map target)) h.source_modulus
+    (relation_basis map target (subst IsOverField (sym h.source_modulus) prime) h.target_modulus h.target_degrees h.matrix second))
     source refl refl first
 
-module _ (source target map : Matrix) (prime : IsPrime target.modulus) (matrix : IsMatrix target) (h : IsModuleMap source target map) where
+module _ (source target map : Matrix) (prime : IsOverField target.ring) (matrix : IsMatrix target) (h : IsModuleMap source target map) where
   both_matrix : IsMatrix (stacked map target)
   both_matrix = IsMatrix-stacked map target h.target_modulus h.target_degrees h.matrix matrix
 
   pub image_exists : (generators : Matrix) × (relations : Matrix) × IsImage target map generators relations
   image_exists =
-      let prime_map : IsPrime map.modulus = subst IsPrime (sym h.target_modulus) prime in
-      let positive : 0 < map.modulus = omega (arith, prime_map.above_one) in
-      presentation_exists target.modulus prime target.target (InSpan (stacked map target))
-      (λ v k. subst (λ q. IsVector q target.target v) h.target_modulus (subst (λ ds. IsVector map.modulus ds v) h.target_degrees ((span_module (stacked map target) positive both_matrix).vectors v k)))
-      (span_basis (stacked map target) prime_map both_matrix)
+      let prime_map : IsOverField map.ring = subst IsOverField (sym h.target_modulus) prime in
+      let positive : IsRing map.ring = field_ring prime_map in
+      presentation_exists target.ring prime target.target (InSpan (stacked map target))
+      (λ v k. subst (λ q. IsVector q target.target v) h.target_modulus (subst (λ ds. IsVector map.ring ds v) h.target_degrees ((span_module (stacked map target) positive both_matrix).vectors v k)))
+      (subst (λ (q : Ring). HasBasis q.weights (InSpan (stacked map target))) h.target_modulus (span_basis (stacked map target) prime_map both_matrix))
       target refl refl matrix
 
   pub cokernel_exists : (generators : Matrix) × (relations : Matrix) × IsCokernel target map generators relations
   cokernel_exists =
-      presentation_exists target.modulus prime target.target (IsAny target.modulus target.target) (λ v k. k) (any_basis target.modulus prime target.target)
+      presentation_exists target.ring prime target.target (IsAny target.ring target.target) (λ v k. k) (any_basis target.ring prime target.target)
       (stacked map target) h.target_modulus h.target_degrees both_matrix

@@ -4,6 +4,7 @@ use Rattle.std.proofs.Props.{props}
 use Rattle.std.specs.declared.cmp.Ordering.{Ordering}
 use Rattle.std.specs.List.{AllByRecursion-prop}
 use Rattle.sf_algebra.specs.Matrices.{Matrix, IsMatrix}
+use Rattle.sf_algebra.specs.Rings.{Ring, Weights}
 use Rattle.sf_algebra.specs.Terms.{Term, IsDescending, IsCanonical}
 use Rattle.sf_algebra.specs.Vectors.{Place, Vector, place_cmp, IsVector}
 use Rattle.sf_groebner.specs.ReducedBases.{IsMonic, HasDividedLead, IsReducedBy, IsApart, IsSorted, IsReducedBasis}
@@ -17,11 +18,11 @@ IsDescending-prop cmp (t ∷ ts) = let rest = IsDescending-prop cmp ts in hlevel
 pub IsCanonical-prop : {K : Type 0} (cmp : K → K → Ordering) (p : ℕ) (ts : List (Term K)) → IsProp (IsCanonical cmp p ts)
 IsCanonical-prop cmp p ts = let descending = IsDescending-prop cmp ts in hlevel (props, descending)
 
-pub IsVector-prop : (p : ℕ) (degrees : List ℤ) (v : Vector) → IsProp (IsVector p degrees v)
-IsVector-prop p degrees v = let canonical = IsCanonical-prop place_cmp p v.terms in hlevel (props, canonical)
+pub IsVector-prop : (ring : Ring) (degrees : List ℤ) (v : Vector) → IsProp (IsVector ring degrees v)
+IsVector-prop ring degrees v = let canonical = IsCanonical-prop (place_cmp ring.weights) ring.modulus v.terms in hlevel (props, canonical)
 
 pub IsMatrix-prop : (m : Matrix) → IsProp (IsMatrix m)
-IsMatrix-prop m = AllByRecursion-prop _ (IsVector-prop m.modulus m.target) m.rows
+IsMatrix-prop m = AllByRecursion-prop _ (IsVector-prop m.ring m.target) m.rows
 
 pub IsSyzygy-prop : (m : Matrix) (c : Vector) → IsProp (IsSyzygy m c)
 IsSyzygy-prop m c = hlevel (props, IsVector-prop)
@@ -44,32 +45,32 @@ pub IsApart-prop : (vs : List Vector) → IsProp (IsApart vs)
 IsApart-prop [] = hlevel props
 IsApart-prop (v ∷ vs) = let rest = IsApart-prop vs in hlevel (props, rest)
 
-pub IsSorted-prop : (vs : List Vector) → IsProp (IsSorted vs)
-IsSorted-prop [] = hlevel props
-IsSorted-prop (v ∷ vs) = let rest = IsSorted-prop vs in hlevel (props, rest)
+pub IsSorted-prop : (weights : Weights) (vs : List Vector) → IsProp (IsSorted weights vs)
+IsSorted-prop weights [] = hlevel props
+IsSorted-prop weights (v ∷ vs) = let rest = IsSorted-prop weights vs in hlevel (props, rest)
 
 -- the reduced basis of a module that is given by a proposition
-pub IsReducedBasis-prop : (N : Vector → Type 0) → ((v : Vector) → IsProp (N v)) → (basis : List Vector) → IsProp (IsReducedBasis N basis)
-IsReducedBasis-prop N each basis = hlevel (props, each, IsMonic-prop, HasDividedLead-prop, IsApart-prop, IsSorted-prop)
+pub IsReducedBasis-prop : (weights : Weights) (N : Vector → Type 0) → ((v : Vector) → IsProp (N v)) → (basis : List Vector) → IsProp (IsReducedBasis weights N basis)
+IsReducedBasis-prop weights N each basis = hlevel (props, each, IsMonic-prop, HasDividedLead-prop, IsApart-prop, IsSorted-prop weights)
 
-HasLeadUpTo-prop : (limit : ℕ) (ts : List (Term Place)) → IsProp (HasLeadUpTo limit ts)
-HasLeadUpTo-prop limit [] = hlevel props
-HasLeadUpTo-prop limit (t ∷ ts) = hlevel props
+HasLeadUpTo-prop : (weights : Weights) (limit : ℕ) (ts : List (Term Place)) → IsProp (HasLeadUpTo weights limit ts)
+HasLeadUpTo-prop weights limit [] = hlevel props
+HasLeadUpTo-prop weights limit (t ∷ ts) = hlevel props
 
-pub IsWithinLimit-prop : (limit : ℕ) (basis : List Vector) → IsProp (IsWithinLimit limit basis)
-IsWithinLimit-prop limit basis = hlevel (props, HasLeadUpTo-prop)
+pub IsWithinLimit-prop : (weights : Weights) (limit : ℕ) (basis : List Vector) → IsProp (IsWithinLimit weights limit basis)
+IsWithinLimit-prop weights limit basis = hlevel (props, HasLeadUpTo-prop weights)
 
 pub HasSmallSize-prop : (m : Matrix) → IsProp (HasSmallSize m)
 HasSmallSize-prop m = hlevel props
 
-pub syzygy_basis-prop : (m : Matrix) (basis : List Vector) → IsProp (IsReducedBasis (IsSyzygy m) basis)
-syzygy_basis-prop m = IsReducedBasis-prop (IsSyzygy m) (IsSyzygy-prop m)
+pub syzygy_basis-prop : (m : Matrix) (basis : List Vector) → IsProp (IsReducedBasis m.ring.weights (IsSyzygy m) basis)
+syzygy_basis-prop m = IsReducedBasis-prop m.ring.weights (IsSyzygy m) (IsSyzygy-prop m)
 
-pub graph_basis-prop : (m : Matrix) (basis : List Vector) → IsProp (IsReducedBasis (IsGraphVector m) basis)
-graph_basis-prop m = IsReducedBasis-prop (IsGraphVector m) (IsGraphVector-prop m)
+pub graph_basis-prop : (m : Matrix) (basis : List Vector) → IsProp (IsReducedBasis m.ring.weights (IsGraphVector m) basis)
+graph_basis-prop m = IsReducedBasis-prop m.ring.weights (IsGraphVector m) (IsGraphVector-prop m)
 
 pub IsSmall-prop : (limit : ℕ) (m : Matrix) (basis : List Vector) → IsProp (IsSmall limit m basis)
-IsSmall-prop limit m basis = hlevel (HasSmallSize-prop, graph_basis-prop, IsWithinLimit-prop)
+IsSmall-prop limit m basis = hlevel (HasSmallSize-prop, graph_basis-prop, IsWithinLimit-prop m.ring.weights)
 
 pub IsLarge-prop : (limit : ℕ) (m : Matrix) → IsProp (IsLarge limit m)
 IsLarge-prop limit m = hlevel props

@@ -4,6 +4,7 @@ use Rattle.std.proofs.lemmas.Int.{ints}
 use Rattle.sf_algebra.specs.Matrices.{row_degrees}
 use Rattle.sf_algebra.specs.Multiples.{combination, combination_terms}
 use Rattle.sf_algebra.specs.Residues.{sum_mod, product_mod}
+use Rattle.sf_algebra.specs.Rings.{plain, ones}
 use Rattle.sf_algebra.specs.Sums.{normal, insert}
 use Rattle.sf_groebner.specs.Examples.{quadrics, other_coefficients, quadrics_syzygy, quadrics_graph_basis, HasQuadricsBasis, HasQuadricsSyzygy, HasThirdRowLift, HasSmallQuadrics, HasLargeQuadrics, RefusesOtherCoefficients, RefusesUnitAsSyzygy}
 use Rattle.sf_groebner.specs.ReducedBases.{IsReducedBy}
@@ -27,21 +28,21 @@ third_row-lift = (graph_lifts quadrics (omega arith) quadrics_graph_basis quadri
 quadrics-size : HasSmallSize quadrics
 quadrics-size = search (arith, ints)
 
-quadrics-within : IsWithinLimit 3 quadrics_graph_basis
+quadrics-within : IsWithinLimit ones 3 quadrics_graph_basis
 quadrics-within = search arith
 
 pub quadrics-small : HasSmallQuadrics
 quadrics-small = record { size = quadrics-size; reduced = quadrics-reduced_graph; within = quadrics-within }
 
 -- the lead y^3 is past the limit
-not_within : IsWithinLimit 2 quadrics_graph_basis → ⊥
+not_within : IsWithinLimit ones 2 quadrics_graph_basis → ⊥
 not_within h = absurd (omega (arith, h.low.1.1.0))
 
 pub quadrics-large : HasLargeQuadrics
 quadrics-large basis h =
     let same : basis ≡ quadrics_graph_basis =
-    unique_reduced 101 (omega arith) (graph_degrees quadrics) (IsGraphVector quadrics) (graph_module quadrics (omega arith)) basis quadrics_graph_basis h.reduced quadrics-reduced_graph in
-    not_within (subst (IsWithinLimit 2) same h.within)
+    unique_reduced (plain 101) (omega arith) (graph_degrees quadrics) (IsGraphVector quadrics) (graph_module quadrics (omega arith)) basis quadrics_graph_basis h.reduced quadrics-reduced_graph in
+    not_within (subst (IsWithinLimit ones 2) same h.within)
 
 other-coefficients : IsCoefficients quadrics other_coefficients
 other-coefficients = search (arith, ints)
@@ -57,7 +58,7 @@ refuses_other_coefficients = (
   refl,
   λ h.
       let same : h.syzygies ≡ quadrics_syzygy ∷ [] =
-      unique_reduced 101 (omega arith) (row_degrees quadrics) (IsSyzygy quadrics) (syzygy_module quadrics (omega arith)) h.syzygies (quadrics_syzygy ∷ []) h.basis quadrics-syzygies in
+      unique_reduced (plain 101) (omega arith) (row_degrees quadrics) (IsSyzygy quadrics) (syzygy_module quadrics (omega arith)) h.syzygies (quadrics_syzygy ∷ []) h.basis quadrics-syzygies in
       not_reduced (subst (λ vs. IsReducedBy vs other_coefficients.terms) same h.reduced),
 )
 

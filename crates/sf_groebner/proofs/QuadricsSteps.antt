@@ -1,5 +1,6 @@
 -- The example of two quadrics: the steps of its resolution.
 use Rattle.std.proofs.Common.{◌≡◌, [], ◌∷◌, inl, inr, refl, arith, pos}
+use Rattle.sf_algebra.specs.Rings.{plain}
 use Rattle.sf_algebra.specs.Sums.{add, normal, insert}
 use Rattle.sf_groebner.specs.Examples.{vector, first_row, second_row, third_row, quadrics, quadrics_basis, quadrics_syzygy}
 use Rattle.sf_groebner.specs.MinimalGenerators.{AreMinimal, IsInSum, matrix_of}
@@ -13,41 +14,41 @@ use Rattle.sf_groebner.proofs.Spans.{span_module}
 use Rattle.sf_groebner.proofs.MinimalGenerators.{unique_minimal}
 use Rattle.sf_groebner.proofs.UniqueBases.{unique_reduced}
 
-first_needed : IsInSum (matrix_of 101 (pos 0 ∷ []) []) IsZero first_row → ⊥
-first_needed = not_in_sum 101 (omega arith) (pos 0 ∷ []) [] tt (λ i j h k e. absurd (omega (arith, k))) first_row (λ e. cc)
+first_needed : IsInSum (matrix_of (plain 101) (pos 0 ∷ []) []) IsZero first_row → ⊥
+first_needed = not_in_sum (plain 101) (omega arith) (pos 0 ∷ []) [] tt (λ i j h k e. absurd (omega (arith, k))) first_row (λ e. cc)
 
-second_needed : IsInSum (matrix_of 101 (pos 0 ∷ []) (first_row ∷ [])) IsZero second_row → ⊥
-second_needed = not_in_sum 101 (omega arith) (pos 0 ∷ []) (first_row ∷ []) (search arith) (λ i j h k e. absurd (omega (arith, h, k))) second_row (λ e. cc)
+second_needed : IsInSum (matrix_of (plain 101) (pos 0 ∷ []) (first_row ∷ [])) IsZero second_row → ⊥
+second_needed = not_in_sum (plain 101) (omega arith) (pos 0 ∷ []) (first_row ∷ []) (search arith) (λ i j h k e. absurd (omega (arith, h, k))) second_row (λ e. cc)
 
 -- y^3 is in the span of the rows before it
 third_left_out : IsInSum quadrics IsZero third_row
 unfolding add normal insert
 third_left_out = record { first = vector 3 []; second = third_row; in_module = refl; in_span = quadrics-span.inside.1.1.0; first_degree = refl; second_degree = refl; sum = refl }
 
-syzygy_needed : IsInSum (matrix_of 101 (pos 2 ∷ pos 2 ∷ []) []) IsZero quadrics_syzygy → ⊥
-syzygy_needed = not_in_sum 101 (omega arith) (pos 2 ∷ pos 2 ∷ []) [] tt (λ i j h k e. absurd (omega (arith, k))) quadrics_syzygy (λ e. cc)
+syzygy_needed : IsInSum (matrix_of (plain 101) (pos 2 ∷ pos 2 ∷ []) []) IsZero quadrics_syzygy → ⊥
+syzygy_needed = not_in_sum (plain 101) (omega arith) (pos 2 ∷ pos 2 ∷ []) [] tt (λ i j h k e. absurd (omega (arith, k))) quadrics_syzygy (λ e. cc)
 
-quadrics_minimal : AreMinimal 101 (pos 0 ∷ []) (InSpan quadrics) IsZero (first_row ∷ second_row ∷ [])
+quadrics_minimal : AreMinimal (plain 101) (pos 0 ∷ []) (InSpan quadrics) IsZero (first_row ∷ second_row ∷ [])
 quadrics_minimal = record {
   basis = quadrics_basis;
   reduced = quadrics-span;
   kept = inr (first_needed, (second_row ∷ [], refl, inr (second_needed, ([], refl, inl (third_left_out, refl)))));
 }
 
-syzygies_minimal : AreMinimal 101 (pos 2 ∷ pos 2 ∷ []) (IsSyzygy quadrics) IsZero (quadrics_syzygy ∷ [])
+syzygies_minimal : AreMinimal (plain 101) (pos 2 ∷ pos 2 ∷ []) (IsSyzygy quadrics) IsZero (quadrics_syzygy ∷ [])
 syzygies_minimal = record { basis = quadrics_syzygy ∷ []; reduced = quadrics-syzygies; kept = inr (syzygy_needed, ([], refl, refl)) }
 
-end_minimal : AreMinimal 101 (pos 4 ∷ []) (IsSyzygy quadrics_syzygies) IsZero []
-end_minimal = record { basis = []; reduced = no_syzygies 101 (omega arith) (pos 2 ∷ pos 2 ∷ []) quadrics_syzygy (search arith); kept = refl }
+end_minimal : AreMinimal (plain 101) (pos 4 ∷ []) (IsSyzygy quadrics_syzygies) IsZero []
+end_minimal = record { basis = []; reduced = no_syzygies (plain 101) (omega arith) (pos 2 ∷ pos 2 ∷ []) quadrics_syzygy (search arith); kept = refl }
 
 pub quadrics-resolution : HasQuadricsResolution
 quadrics-resolution = (
-  record { modulus = refl; target = refl; minimal = quadrics_minimal },
-  (record { modulus = refl; target = refl; minimal = syzygies_minimal }, (record { modulus = refl; target = refl; minimal = end_minimal }, tt)),
+  record { ring = refl; target = refl; minimal = quadrics_minimal },
+  (record { ring = refl; target = refl; minimal = syzygies_minimal }, (record { ring = refl; target = refl; minimal = end_minimal }, tt)),
 )
 
 pub refuses_third_row : RefusesThirdRow
 refuses_third_row h =
     let same : first_row ∷ second_row ∷ third_row ∷ [] ≡ first_row ∷ second_row ∷ [] =
-    unique_minimal 101 (pos 0 ∷ []) (InSpan quadrics) IsZero (unique_reduced 101 (omega arith) (pos 0 ∷ []) (InSpan quadrics) (span_module quadrics (omega arith) quadrics-matrix)) (first_row ∷ second_row ∷ third_row ∷ []) (first_row ∷ second_row ∷ []) h quadrics_minimal in
+    unique_minimal (plain 101) (pos 0 ∷ []) (InSpan quadrics) IsZero (unique_reduced (plain 101) (omega arith) (pos 0 ∷ []) (InSpan quadrics) (span_module quadrics (omega arith) quadrics-matrix)) (first_row ∷ second_row ∷ third_row ∷ []) (first_row ∷ second_row ∷ []) h quadrics_minimal in
     cc

@@ -4,6 +4,7 @@ use Rattle.sf_algebra.specs.Matrices.{Matrix, row_degrees, IsMatrix}
 use Rattle.sf_algebra.specs.MatrixOperations.{stacked}
 use Rattle.sf_algebra.specs.Multiples.{place_product, combination, negative}
 use Rattle.sf_algebra.specs.Primes.{IsPrime}
+use Rattle.sf_algebra.specs.Rings.{Ring, IsRing, IsOverField}
 use Rattle.sf_algebra.specs.Sums.{add}
 use Rattle.sf_algebra.specs.Terms.{IsCanonical}
 use Rattle.sf_algebra.specs.Vectors.{Vector, place_cmp, IsVector}
@@ -18,8 +19,9 @@ use Rattle.sf_groebner.specs.Cuts.{part_of, first_parts, IsFirstBlock}
 use Rattle.sf_groebner.specs.Lifts.{IsLift}
 use Rattle.sf_groebner.specs.MinimalGenerators.{IsInSum, matrix_of, AreMinimal}
 use Rattle.sf_groebner.specs.Presentations.{IsZero, IsRelation, IsReducedByRelations}
-use Rattle.sf_groebner.specs.ReducedBases.{IsReducedBy}
+use Rattle.sf_groebner.specs.ReducedBases.{IsReducedBy, IsReducedBasis}
 use Rattle.sf_groebner.specs.Spans.{InSpan, IsSyzygy}
+use Rattle.sf_algebra.proofs.Weights.{field_ring}
 use Rattle.sf_groebner.proofs.FirstParts.{reduced-first_parts}
 use Rattle.sf_groebner.proofs.GeneratingBases.{AreMinimal-generate, AreMinimal-inside}
 use Rattle.sf_groebner.proofs.Lifts.{reduced-first_block}
@@ -32,26 +34,26 @@ use Rattle.sf_groebner.proofs.Spans.{span_module}
 use Rattle.sf_groebner.proofs.Submodules.{IsSubmodule}
 use Rattle.sf_groebner.proofs.UniqueBases.{unique_reduced}
 
-pub zero_submodule : (p : ℕ) → 0 < p → (target : List ℤ) → IsSubmodule p target IsZero
-zero_submodule p positive target = record {
+pub zero_submodule : (ring : Ring) → IsRing ring → (target : List ℤ) → IsSubmodule ring target IsZero
+zero_submodule ring positive target = record {
   module_like = record {
-    vectors = λ v h. subst (λ ts. IsVector p target (record { degree = v.degree; terms = ts })) (sym h) (record { canonical = record { descending = tt; residues = tt }; homogeneous = tt });
-    differences = λ u v h k e. (λ i. add place_cmp p (h i) (negative p (k i))) ∙ add-negative place_keys p positive [] (record { descending = tt; residues = tt });
+    vectors = λ v h. subst (λ ts. IsVector ring target (record { degree = v.degree; terms = ts })) (sym h) (record { canonical = record { descending = tt; residues = tt }; homogeneous = tt });
+    differences = λ u v h k e. (λ i. add (place_cmp ring.weights) ring.modulus (h i) (negative ring.modulus (k i))) ∙ add-negative (place_keys ring.weights) ring.modulus positive.modulus [] (record { descending = tt; residues = tt });
   };
   combinations = λ rows inside d c h.
-      (λ i. combination place_cmp place_product p (λ k. k.monomial) (λ k. row_at-each (λ ts. ts ≡ []) refl rows inside k.position i) c)
-      ∙ combination-no_rows place_keys p positive (λ k. k.monomial) c;
+      (λ i. combination (place_cmp ring.weights) place_product ring.modulus (λ k. k.monomial) (λ k. row_at-each (λ ts. ts ≡ []) refl rows inside k.position i) c)
+      ∙ combination-no_rows (place_keys ring.weights) ring.modulus positive.modulus (λ k. k.monomial) c;
 }
 
-module _ (m : Matrix) (positive : 0 < m.modulus) where
+module _ (m : Matrix) (positive : IsRing m.ring) where
   -- a sum with 0 is in the span
   pub InSpan-sum : (v : Vector) → IsInSum m IsZero v → InSpan m v
   InSpan-sum v h =
-      let canonical : IsCanonical place_cmp m.modulus h.second.terms =
-      subst (λ (x : Vector). IsCanonical place_cmp m.modulus x.terms) (h.in_span).2 (IsCanonical-row_combination m.modulus positive m.rows ((h.in_span).0).terms) in
+      let canonical : IsCanonical (place_cmp m.ring.weights) m.ring.modulus h.second.terms =
+      subst (λ (x : Vector). IsCanonical (place_cmp m.ring.weights) m.ring.modulus x.terms) (h.in_span).2 (IsCanonical-row_combination m.ring positive.modulus m.rows ((h.in_span).0).terms) in
       let terms : h.second.terms ≡ v.terms =
-      sym (add-nil_first place_cmp place_cmp_linear m.modulus positive h.second.terms canonical)
-      ∙ ap (λ ts. add place_cmp m.modulus ts h.second.terms) (sym h.in_module)
+      sym (add-nil_first (place_cmp m.ring.weights) (place_cmp_linear m.ring.weights) m.ring.modulus positive.modulus h.second.terms canonical)
+      ∙ ap (λ ts. add (place_cmp m.ring.weights) m.ring.modulus ts h.second.terms) (sym h.in_module)
       ∙ h.sum in
       subst (InSpan m) (λ i. record { degree = h.second_degree i; terms = terms i }) h.in_span
 
@@ -63,67 +65,67 @@ module _ (m : Matrix) (positive : 0 < m.modulus) where
     in_span = h;
     first_degree = refl;
     second_degree = refl;
-    sum = add-nil_first place_cmp place_cmp_linear m.modulus positive v.terms
-        (subst (λ (x : Vector). IsCanonical place_cmp m.modulus x.terms) h.2 (IsCanonical-row_combination m.modulus positive m.rows (h.0).terms));
+    sum = add-nil_first (place_cmp m.ring.weights) (place_cmp_linear m.ring.weights) m.ring.modulus positive.modulus v.terms
+        (subst (λ (x : Vector). IsCanonical (place_cmp m.ring.weights) m.ring.modulus x.terms) h.2 (IsCanonical-row_combination m.ring positive.modulus m.rows (h.0).terms));
   }
 
 -- minimal generators modulo 0 span the module
-module _ (p : ℕ) (prime : IsPrime p) (target : List ℤ) (N : Vector → Type 0) (submodule : IsSubmodule p target N) (generators : List Vector) (minimal : AreMinimal p target N IsZero generators) where
-  pub InSpan-minimal : (v : Vector) → N v → InSpan (matrix_of p target generators) v
+module _ (ring : Ring) (prime : IsOverField ring) (target : List ℤ) (N : Vector → Type 0) (submodule : IsSubmodule ring target N) (generators : List Vector) (minimal : AreMinimal ring target N IsZero generators) where
+  pub InSpan-minimal : (v : Vector) → N v → InSpan (matrix_of ring target generators) v
   InSpan-minimal v h =
-      let positive : 0 < p = omega (arith, prime.above_one) in
-      InSpan-sum (matrix_of p target generators) positive v (AreMinimal-generate p prime target N IsZero submodule (zero_submodule p positive target) generators minimal v h)
+      let positive : IsRing ring = field_ring prime in
+      InSpan-sum (matrix_of ring target generators) positive v (AreMinimal-generate ring prime target N IsZero submodule (zero_submodule ring positive target) generators minimal v h)
 
-  pub InSpan-minimal_inside : (v : Vector) → InSpan (matrix_of p target generators) v → N v
+  pub InSpan-minimal_inside : (v : Vector) → InSpan (matrix_of ring target generators) v → N v
   InSpan-minimal_inside v h =
-      let positive : 0 < p = omega (arith, prime.above_one) in
-      AreMinimal-inside p prime target N IsZero submodule (zero_submodule p positive target) generators minimal
-      (λ w none. subst (λ ts. N (record { degree = w.degree; terms = ts })) (sym none) (zero-inside p positive target N submodule w.degree))
-      v (IsInSum-span (matrix_of p target generators) positive v h)
+      let positive : IsRing ring = field_ring prime in
+      AreMinimal-inside ring prime target N IsZero submodule (zero_submodule ring positive target) generators minimal
+      (λ w none. subst (λ ts. N (record { degree = w.degree; terms = ts })) (sym none) (zero-inside ring positive target N submodule w.degree))
+      v (IsInSum-span (matrix_of ring target generators) positive v h)
 
 -- a matrix of relations of generators modulo the span of base, minimal modulo 0
-module _ (generators base relations : Matrix) (prime : IsPrime generators.modulus) (moduli : generators.modulus ≡ base.modulus) (is_matrix : IsMatrix base) (same_modulus : relations.modulus ≡ generators.modulus) (same_target : relations.target ≡ row_degrees generators) (minimal : AreMinimal generators.modulus (row_degrees generators) (IsRelation generators (InSpan base)) IsZero relations.rows) where
-  relations_positive : 0 < generators.modulus
-  relations_positive = omega (arith, prime.above_one)
+module _ (generators base relations : Matrix) (prime : IsOverField generators.ring) (moduli : generators.ring ≡ base.ring) (is_matrix : IsMatrix base) (same_modulus : relations.ring ≡ generators.ring) (same_target : relations.target ≡ row_degrees generators) (minimal : AreMinimal generators.ring (row_degrees generators) (IsRelation generators (InSpan base)) IsZero relations.rows) where
+  relations_positive : IsRing generators.ring
+  relations_positive = field_ring prime
 
-  all_relations : IsSubmodule generators.modulus (row_degrees generators) (IsRelation generators (InSpan base))
+  all_relations : IsSubmodule generators.ring (row_degrees generators) (IsRelation generators (InSpan base))
   all_relations =
-      let base_positive : 0 < base.modulus = subst (λ q. 0 < q) moduli relations_positive in
+      let base_positive : IsRing base.ring = subst (λ q. IsRing q) moduli relations_positive in
       relation_submodule generators relations_positive base.target (InSpan base)
       (subst (λ q. IsSubmodule q base.target (InSpan base)) (sym moduli) (span_submodule base base_positive is_matrix))
 
-  as_rows : matrix_of generators.modulus (row_degrees generators) relations.rows ≡ relations
-  as_rows = λ i. record { modulus = sym same_modulus i; target = sym same_target i; rows = relations.rows }
+  as_rows : matrix_of generators.ring (row_degrees generators) relations.rows ≡ relations
+  as_rows = λ i. record { ring = sym same_modulus i; target = sym same_target i; rows = relations.rows }
 
   pub InSpan-relations : (c : Vector) → IsRelation generators (InSpan base) c → InSpan relations c
   InSpan-relations c h =
-      subst (λ m. InSpan m c) as_rows (InSpan-minimal generators.modulus prime (row_degrees generators) (IsRelation generators (InSpan base)) all_relations relations.rows minimal c h)
+      subst (λ m. InSpan m c) as_rows (InSpan-minimal generators.ring prime (row_degrees generators) (IsRelation generators (InSpan base)) all_relations relations.rows minimal c h)
 
   pub IsRelation-span : (c : Vector) → InSpan relations c → IsRelation generators (InSpan base) c
   IsRelation-span c h =
-      InSpan-minimal_inside generators.modulus prime (row_degrees generators) (IsRelation generators (InSpan base)) all_relations relations.rows minimal c (subst (λ m. InSpan m c) (sym as_rows) h)
+      InSpan-minimal_inside generators.ring prime (row_degrees generators) (IsRelation generators (InSpan base)) all_relations relations.rows minimal c (subst (λ m. InSpan m c) (sym as_rows) h)
 
   -- the first block of a lift is reduced by the relations
   pub reduced_coordinates : (v c : Vector) → IsLift (stacked generators base) v c → IsReducedByRelations relations (part_of 0 (length generators.rows) c)
   reduced_coordinates v c h =
       let m = stacked generators base in
       let n = length generators.rows in
-      let blocks = reduced-first_parts m.modulus (row_degrees m) (IsSyzygy m) (λ w l. l.coefficients) n h.syzygies h.basis in
+      let blocks = reduced-first_parts m.ring (row_degrees m) (IsSyzygy m) (λ w l. l.coefficients) n h.syzygies h.basis in
       record {
         basis = first_parts n h.syzygies;
-        reduced_basis = IsReducedBasis-same (IsFirstBlock generators base) (InSpan relations)
+        reduced_basis = IsReducedBasis-same relations.ring.weights (IsFirstBlock generators base) (InSpan relations)
             (λ w k. InSpan-relations w ((IsRelation-blocks generators base relations_positive moduli w).1 k))
             (λ w k. (IsRelation-blocks generators base relations_positive moduli w).0 (IsRelation-span w k))
-            (first_parts n h.syzygies) blocks;
+            (first_parts n h.syzygies) (subst (λ (q : Ring). IsReducedBasis q.weights (IsFirstBlock generators base) (first_parts n h.syzygies)) (sym same_modulus) blocks);
         reduced = reduced-first_block m n h.syzygies c h.basis h.reduced;
       }
 
 -- vectors that are reduced by relations and equal modulo their span are equal
-pub unique_reduced_vector : (m : Matrix) → 0 < m.modulus → IsMatrix m → (v w : Vector) → IsVector m.modulus m.target v → IsVector m.modulus m.target w → v.degree ≡ w.degree
-    → InSpan m (difference m.modulus v w) → IsReducedByRelations m v → IsReducedByRelations m w → v ≡ w
+pub unique_reduced_vector : (m : Matrix) → IsRing m.ring → IsMatrix m → (v w : Vector) → IsVector m.ring m.target v → IsVector m.ring m.target w → v.degree ≡ w.degree
+    → InSpan m (difference m.ring v w) → IsReducedByRelations m v → IsReducedByRelations m w → v ≡ w
 unique_reduced_vector m positive matrix v w hv hw degree inside h k =
-    let bases : k.basis ≡ h.basis = unique_reduced m.modulus positive m.target (InSpan m) (span_module m positive matrix) k.basis h.basis k.reduced_basis h.reduced_basis in
+    let bases : k.basis ≡ h.basis = unique_reduced m.ring positive m.target (InSpan m) (span_module m positive matrix) k.basis h.basis k.reduced_basis h.reduced_basis in
     let terms : v.terms ≡ w.terms =
-    same_reduced m.modulus positive h.basis v w hv.canonical hw.canonical (h.reduced_basis.complete (difference m.modulus v w) inside) h.reduced
+    same_reduced m.ring positive h.basis v w hv.canonical hw.canonical (h.reduced_basis.complete (difference m.ring v w) inside) h.reduced
     (subst (λ basis. IsReducedBy basis w.terms) bases k.reduced) in
     λ i. record { degree = degree i; terms = terms i }

@@ -2,6 +2,7 @@
 use Rattle.std.proofs.Common.{◌≡◌, true, ℕ, List, [], ◌∷◌, ◌∙◌, ℤ}
 use Rattle.std.specs.List.{AllByRecursion}
 use Rattle.sf_algebra.specs.Primes.{IsPrime}
+use Rattle.sf_algebra.specs.Rings.{Ring, IsOverField}
 use Rattle.sf_algebra.specs.Terms.{Term}
 use Rattle.sf_algebra.specs.Vectors.{Place, Vector}
 use Rattle.sf_groebner.specs.ReducedBases.{HasDividedLead, IsMonic, IsReducedBasis, is_divided}
@@ -17,25 +18,25 @@ HasDividedLead-more : (vs ws : List Vector) → ((k : Place) → is_divided vs k
 HasDividedLead-more vs ws more [] h = tt
 HasDividedLead-more vs ws more (t ∷ ts) h = more t.at h
 
-module _ (p : ℕ) (prime : IsPrime p) (target : List ℤ) (N : Vector → Type 0) (submodule : IsSubmodule p target N) where
-  from_completion : Completion N → (basis : List Vector) × IsReducedBasis N basis
+module _ (ring : Ring) (prime : IsOverField ring) (target : List ℤ) (N : Vector → Type 0) (submodule : IsSubmodule ring target N) where
+  from_completion : Completion N → (basis : List Vector) × IsReducedBasis ring.weights N basis
   from_completion c =
       let few : List Vector = antichain c.rows in
       let monic : AllByRecursion (IsMonicIn N) few = AllByRecursion-antichain (IsMonicIn N) c.rows c.monic in
-      let r = reduced_rows p prime target N submodule few monic (IsAntichain-antichain c.rows c.grown) in (
-        sort_rows r.reduced,
+      let r = reduced_rows ring prime target N submodule few monic (IsAntichain-antichain c.rows c.grown) in (
+        sort_rows ring.weights r.reduced,
         record {
-          inside = AllByRecursion-sort_rows N r.reduced r.inside;
-          monic = AllByRecursion-sort_rows (λ (v : Vector). IsMonic v.terms) r.reduced r.monic;
+          inside = AllByRecursion-sort_rows ring.weights N r.reduced r.inside;
+          monic = AllByRecursion-sort_rows ring.weights (λ (v : Vector). IsMonic v.terms) r.reduced r.monic;
           complete = λ v h.
-              HasDividedLead-more c.rows (sort_rows r.reduced)
-              (λ k divided. is_divided-sort_rows r.reduced k (r.divides k ∙ is_divided-antichain c.rows k divided))
+              HasDividedLead-more c.rows (sort_rows ring.weights r.reduced)
+              (λ k divided. is_divided-sort_rows ring.weights r.reduced k (r.divides k ∙ is_divided-antichain c.rows k divided))
               v.terms (c.complete v h);
-          apart = IsApart-sort_rows r.reduced r.apart;
-          sorted = IsSorted-sort_rows r.reduced r.monic r.apart;
+          apart = IsApart-sort_rows ring.weights r.reduced r.apart;
+          sorted = IsSorted-sort_rows ring.weights r.reduced r.monic r.apart;
         },
       )
 
   -- modulo a prime, each module with finitely many generators has a reduced basis
-  pub reduced_exists : (generators : List Vector) → AreGenerators p N generators → (basis : List Vector) × IsReducedBasis N basis
-  reduced_exists generators generate = from_completion (completion p prime target N submodule generators generate)
+  pub reduced_exists : (generators : List Vector) → AreGenerators ring N generators → (basis : List Vector) × IsReducedBasis ring.weights N basis
+  reduced_exists generators generate = from_completion (completion ring prime target N submodule generators generate)

@@ -5,6 +5,7 @@ use Rattle.std.specs.declared.cmp.Ordering.TheVariants.{Less}
 use Rattle.std.specs.List.{AllByRecursion}
 use Rattle.std.specs.Ordering.{int_cmp, ordering_then}
 use Rattle.sf_algebra.specs.MatrixOperations.{part_terms}
+use Rattle.sf_algebra.specs.Rings.{Weights}
 use Rattle.sf_algebra.specs.Terms.{Term}
 use Rattle.sf_algebra.specs.Vectors.{Place, Vector}
 use Rattle.sf_algebra.proofs.Filters.{cond_cases}
@@ -66,16 +67,16 @@ module _ (from to : ℕ) (keep : Vector → Bool) (N P : Vector → Type 0) (cut
       ))
       (λ e. rest)
 
-  part-sorted : (basis : List Vector) → AllByRecursion IsElement basis → IsSorted basis → IsSorted (map (part_of from to) (filter keep basis))
-  part-sorted [] each sorted = tt
-  part-sorted (v ∷ vs) each sorted =
-      let rest = part-sorted vs each.1 sorted.1 in
-      cond_cases (keep v) (v ∷ filter keep vs) (filter keep vs) (λ l. IsSorted (map (part_of from to) l))
+  part-sorted : (weights : Weights) (basis : List Vector) → AllByRecursion IsElement basis → IsSorted weights basis → IsSorted weights (map (part_of from to) (filter keep basis))
+  part-sorted weights [] each sorted = tt
+  part-sorted weights (v ∷ vs) each sorted =
+      let rest = part-sorted weights vs each.1 sorted.1 in
+      cond_cases (keep v) (v ∷ filter keep vs) (filter keep vs) (λ l. IsSorted weights (map (part_of from to) l))
       (λ e.
       let here = HasLeadBetween-kept v each.0 e in (
-        AllByRecursion-filter_map (λ w. IsElement w × (row_cmp v w ≡ Less)) (λ w. row_cmp (part_of from to v) w ≡ Less) keep (part_of from to)
-            (λ w k h. ap (ordering_then (int_cmp v.degree w.degree)) (lead_cmp-part from to w.terms v.terms (HasLeadBetween-kept w h.0 k) here) ∙ h.1) vs
-            (AllByRecursion-both IsElement (λ w. row_cmp v w ≡ Less) (λ w. IsElement w × (row_cmp v w ≡ Less)) (λ w a b. (a, b)) vs each.1 sorted.0),
+        AllByRecursion-filter_map (λ w. IsElement w × (row_cmp weights v w ≡ Less)) (λ w. row_cmp weights (part_of from to v) w ≡ Less) keep (part_of from to)
+            (λ w k h. ap (ordering_then (int_cmp v.degree w.degree)) (lead_cmp-part from to weights w.terms v.terms (HasLeadBetween-kept w h.0 k) here) ∙ h.1) vs
+            (AllByRecursion-both IsElement (λ w. row_cmp weights v w ≡ Less) (λ w. IsElement w × (row_cmp weights v w ≡ Less)) (λ w a b. (a, b)) vs each.1 sorted.0),
         rest,
       ))
       (λ e. rest)
@@ -116,17 +117,17 @@ module _ (from to : ℕ) (keep : Vector → Bool) (N P : Vector → Type 0) (cut
           let lift = cut.lifted v h t ts e in
           lead_of_part lift.0 lift.1 lift.2 lift.0.terms refl t ts (ap (λ x. x.terms) lift.3 ∙ e)
 
-  pub elements : (basis : List Vector) → IsReducedBasis N basis → AllByRecursion IsElement basis
-  elements basis h = AllByRecursion-both N (λ (w : Vector). IsMonic w.terms) IsElement (λ w a b. (a, b)) basis h.inside h.monic
+  pub elements : (weights : Weights) (basis : List Vector) → IsReducedBasis weights N basis → AllByRecursion IsElement basis
+  elements weights basis h = AllByRecursion-both N (λ (w : Vector). IsMonic w.terms) IsElement (λ w a b. (a, b)) basis h.inside h.monic
 
   -- the parts of the kept elements
-  pub reduced_part : (basis : List Vector) → IsReducedBasis N basis → IsReducedBasis P (map (part_of from to) (filter keep basis))
-  reduced_part basis h =
-      let each = elements basis h in
+  pub reduced_part : (weights : Weights) (basis : List Vector) → IsReducedBasis weights N basis → IsReducedBasis weights P (map (part_of from to) (filter keep basis))
+  reduced_part weights basis h =
+      let each = elements weights basis h in
       record {
         inside = AllByRecursion-filter_map N P keep (part_of from to) (λ w e k. cut.inside w k e) basis h.inside;
         monic = AllByRecursion-filter_map IsElement (λ (w : Vector). IsMonic w.terms) keep (part_of from to) (λ w e k. part-monic w.terms (HasLeadBetween-kept w k e) k.1) basis each;
         complete = part-complete basis each h.complete;
         apart = part-apart basis each h.apart;
-        sorted = part-sorted basis each h.sorted;
+        sorted = part-sorted weights basis each h.sorted;
       }

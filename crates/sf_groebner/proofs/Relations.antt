@@ -4,6 +4,7 @@ use Rattle.std.proofs.lemmas.List.{length-map}
 use Rattle.sf_algebra.specs.Matrices.{Matrix, row_degrees}
 use Rattle.sf_algebra.specs.MatrixOperations.{part_terms, row_combination, stacked}
 use Rattle.sf_algebra.specs.Multiples.{negative}
+use Rattle.sf_algebra.specs.Rings.{IsRing}
 use Rattle.sf_algebra.specs.Sums.{add}
 use Rattle.sf_algebra.specs.Terms.{Term, IsCanonical}
 use Rattle.sf_algebra.specs.Vectors.{Place, Vector, place_cmp, IsVector}
@@ -20,53 +21,53 @@ use Rattle.sf_groebner.proofs.GraphParts.{IsWithin-coefficients}
 use Rattle.sf_groebner.proofs.PairedVectors.{pair_terms, part_terms-pair_first, IsVector-pair}
 use Rattle.sf_groebner.proofs.StackedSpans.{stack_coefficients, first_coefficients, last_coefficients, row_combination-blocks}
 
-module _ (a b : Matrix) (positive : 0 < a.modulus) (moduli : a.modulus ≡ b.modulus) where
+module _ (a b : Matrix) (positive : IsRing a.ring) (moduli : a.ring ≡ b.ring) where
   relation_from_block : (v : Vector) → IsFirstBlock a b v → IsRelation a (InSpan b) v
   relation_from_block v h = subst (IsRelation a (InSpan b)) h.2 (record {
     coefficients = first_coefficients a b h.0 h.1.coefficients;
     inside = (
-      record { degree = h.0.degree; terms = negative a.modulus (others h.0) },
-      subst (λ p. IsVector p (row_degrees b) (record { degree = h.0.degree; terms = negative a.modulus (others h.0) })) moduli
-          (IsVector-negative a.modulus (row_degrees b) h.0.degree (others h.0) (last_coefficients a b h.0 h.1.coefficients)),
-      (λ i. record { degree = h.0.degree; terms = (ap (λ p. row_combination p b.rows (negative a.modulus (others h.0))) (sym moduli) ∙ same h.0 h.1) i }),
+      record { degree = h.0.degree; terms = negative a.ring.modulus (others h.0) },
+      subst (λ ring. IsVector ring (row_degrees b) (record { degree = h.0.degree; terms = negative a.ring.modulus (others h.0) })) moduli
+          (IsVector-negative a.ring (row_degrees b) h.0.degree (others h.0) (last_coefficients a b h.0 h.1.coefficients)),
+      (λ i. record { degree = h.0.degree; terms = (ap (λ ring. row_combination ring b.rows (negative a.ring.modulus (others h.0))) (sym moduli) ∙ same h.0 h.1) i }),
     );
   })
     where
       others : Vector → List (Term Place)
       others c = part_terms (length a.rows) (length a.rows + length b.rows) c.terms
 
-      same : (c : Vector) → IsSyzygy (stacked a b) c → row_combination a.modulus b.rows (negative a.modulus (others c)) ≡ row_combination a.modulus a.rows (part_terms 0 (length a.rows) c.terms)
+      same : (c : Vector) → IsSyzygy (stacked a b) c → row_combination a.ring b.rows (negative a.ring.modulus (others c)) ≡ row_combination a.ring a.rows (part_terms 0 (length a.rows) c.terms)
       same c k =
           let last = last_coefficients a b c k.coefficients in
-          let first = row_combination a.modulus a.rows (part_terms 0 (length a.rows) c.terms) in
-          let second = row_combination a.modulus b.rows (others c) in
-          let canonical : IsCanonical place_cmp a.modulus second = IsCanonical-row_combination a.modulus positive b.rows (others c) in
-          row_combination-negative a.modulus positive b.rows (others c) last.canonical
-          ∙ sym (add-negative_same place_keys a.modulus positive first (negative a.modulus second)
-          (IsCanonical-row_combination a.modulus positive a.rows (part_terms 0 (length a.rows) c.terms)) (IsCanonical-negative place_cmp a.modulus second canonical)
-          (ap (add place_cmp a.modulus first) (negative-negative place_cmp a.modulus second canonical.residues) ∙ row_combination-blocks a b positive c k.coefficients ∙ k.zero))
+          let first = row_combination a.ring a.rows (part_terms 0 (length a.rows) c.terms) in
+          let second = row_combination a.ring b.rows (others c) in
+          let canonical : IsCanonical (place_cmp a.ring.weights) a.ring.modulus second = IsCanonical-row_combination a.ring positive.modulus b.rows (others c) in
+          row_combination-negative a.ring positive.modulus b.rows (others c) last.canonical
+          ∙ sym (add-negative_same (place_keys a.ring.weights) a.ring.modulus positive.modulus first (negative a.ring.modulus second)
+          (IsCanonical-row_combination a.ring positive.modulus a.rows (part_terms 0 (length a.rows) c.terms)) (IsCanonical-negative (place_cmp a.ring.weights) a.ring.modulus second canonical)
+          (ap (add (place_cmp a.ring.weights) a.ring.modulus first) (negative-negative (place_cmp a.ring.weights) a.ring.modulus second canonical.residues) ∙ row_combination-blocks a b positive c k.coefficients ∙ k.zero))
 
   block_from_relation : (v : Vector) → IsRelation a (InSpan b) v → IsFirstBlock a b v
   block_from_relation v h =
       let d = h.inside.0 in
-      let p = a.modulus in
+      let ring = a.ring in
       let within = IsWithin-coefficients a v h.coefficients in
       let degree : d.degree ≡ v.degree = ap (λ x. x.degree) h.inside.2 in
-      let coefficients : IsVector p (row_degrees b) (record { degree = v.degree; terms = negative p d.terms }) =
-      IsVector-negative p (row_degrees b) v.degree d.terms
-      (subst (λ e. IsVector p (row_degrees b) (record { degree = e; terms = d.terms })) degree (subst (λ q. IsVector q (row_degrees b) d) (sym moduli) h.inside.1)) in
-      let pair : IsVector p (row_degrees a ++ row_degrees b) (record { degree = v.degree; terms = pair_terms (length a.rows) v.terms (negative p d.terms) }) =
-      subst (λ n. IsVector p (row_degrees a ++ row_degrees b) (record { degree = v.degree; terms = pair_terms n v.terms (negative p d.terms) })) (length-map a.rows (λ (x : Vector). x.degree))
-      (IsVector-pair (row_degrees a) (row_degrees b) v.degree p v.terms (negative p d.terms) h.coefficients coefficients) in
-      let canonical : IsCanonical place_cmp p d.terms = subst (λ q. IsCanonical place_cmp q d.terms) (sym moduli) h.inside.1.canonical in
-      let value : row_combination p b.rows d.terms ≡ row_combination p a.rows v.terms = ap (λ q. row_combination q b.rows d.terms) moduli ∙ ap (λ x. x.terms) h.inside.2 in
-      let zero : row_combination p (a.rows ++ b.rows) (pair_terms (length a.rows) v.terms (negative p d.terms)) ≡ [] =
-      row_combination-stacked p positive a.rows b.rows v.terms (negative p d.terms) within
-      ∙ ap (add place_cmp p (row_combination p a.rows v.terms)) (row_combination-negative p positive b.rows d.terms canonical ∙ ap (negative p) value)
-      ∙ add-negative place_keys p positive (row_combination p a.rows v.terms) (IsCanonical-row_combination p positive a.rows v.terms) in (
-        record { degree = v.degree; terms = pair_terms (length a.rows) v.terms (negative p d.terms) },
+      let coefficients : IsVector ring (row_degrees b) (record { degree = v.degree; terms = negative ring.modulus d.terms }) =
+      IsVector-negative ring (row_degrees b) v.degree d.terms
+      (subst (λ e. IsVector ring (row_degrees b) (record { degree = e; terms = d.terms })) degree (subst (λ q. IsVector q (row_degrees b) d) (sym moduli) h.inside.1)) in
+      let pair : IsVector ring (row_degrees a ++ row_degrees b) (record { degree = v.degree; terms = pair_terms (length a.rows) v.terms (negative ring.modulus d.terms) }) =
+      subst (λ n. IsVector ring (row_degrees a ++ row_degrees b) (record { degree = v.degree; terms = pair_terms n v.terms (negative ring.modulus d.terms) })) (length-map a.rows (λ (x : Vector). x.degree))
+      (IsVector-pair (row_degrees a) (row_degrees b) v.degree ring v.terms (negative ring.modulus d.terms) h.coefficients coefficients) in
+      let canonical : IsCanonical (place_cmp ring.weights) ring.modulus d.terms = subst (λ q. IsCanonical (place_cmp q.weights) q.modulus d.terms) (sym moduli) h.inside.1.canonical in
+      let value : row_combination ring b.rows d.terms ≡ row_combination ring a.rows v.terms = ap (λ q. row_combination q b.rows d.terms) moduli ∙ ap (λ x. x.terms) h.inside.2 in
+      let zero : row_combination ring (a.rows ++ b.rows) (pair_terms (length a.rows) v.terms (negative ring.modulus d.terms)) ≡ [] =
+      row_combination-stacked ring positive.modulus a.rows b.rows v.terms (negative ring.modulus d.terms) within
+      ∙ ap (add (place_cmp ring.weights) ring.modulus (row_combination ring a.rows v.terms)) (row_combination-negative ring positive.modulus b.rows d.terms canonical ∙ ap (negative ring.modulus) value)
+      ∙ add-negative (place_keys ring.weights) ring.modulus positive.modulus (row_combination ring a.rows v.terms) (IsCanonical-row_combination ring positive.modulus a.rows v.terms) in (
+        record { degree = v.degree; terms = pair_terms (length a.rows) v.terms (negative ring.modulus d.terms) },
         record { coefficients = stack_coefficients a b _ pair; zero = zero },
-        (λ i. record { degree = v.degree; terms = part_terms-pair_first (length a.rows) v.terms (negative p d.terms) within i }),
+        (λ i. record { degree = v.degree; terms = part_terms-pair_first (length a.rows) v.terms (negative ring.modulus d.terms) within i }),
       )
 
   pub IsRelation-blocks : (v : Vector) → (IsRelation a (InSpan b) v → IsFirstBlock a b v) × (IsFirstBlock a b v → IsRelation a (InSpan b) v)

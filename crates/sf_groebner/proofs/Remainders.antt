@@ -2,6 +2,7 @@
 use Rattle.std.proofs.Common.{◌≡◌, true, false, ℕ, ◌<◌, Bool, List, [], ◌∷◌, refl}
 use Rattle.std.specs.Bool.{IsFalse}
 use Rattle.sf_algebra.specs.Multiples.{negative}
+use Rattle.sf_algebra.specs.Rings.{Ring, IsRing}
 use Rattle.sf_algebra.specs.Sums.{add}
 use Rattle.sf_algebra.specs.Terms.{Term, IsCanonical}
 use Rattle.sf_algebra.specs.Vectors.{Place, Vector, place_cmp}
@@ -20,10 +21,10 @@ IsReducedBy-none basis (t ∷ ts) free divided = absurd (clash (is_divided basis
     clash : (b : Bool) → b ≡ true → b ≡ false → ⊥
     clash b h k = cc
 
-pub same_reduced : (p : ℕ) → 0 < p → (basis : List Vector) (u v : Vector) → IsCanonical place_cmp p u.terms → IsCanonical place_cmp p v.terms
-    → HasDividedLead basis (difference p u v).terms → IsReducedBy basis u.terms → IsReducedBy basis v.terms → u.terms ≡ v.terms
-same_reduced p positive basis u v h k divided free_u free_v =
-    add-negative_same place_keys p positive u.terms v.terms h k
-    (IsReducedBy-none basis (add place_cmp p u.terms (negative p v.terms))
-    (EachPlace-add (λ l. IsFalse (is_divided basis l)) place_cmp p u.terms (negative p v.terms) free_u (EachPlace-negative (λ l. IsFalse (is_divided basis l)) p v.terms free_v))
+pub same_reduced : (ring : Ring) → IsRing ring → (basis : List Vector) (u v : Vector) → IsCanonical (place_cmp ring.weights) ring.modulus u.terms → IsCanonical (place_cmp ring.weights) ring.modulus v.terms
+    → HasDividedLead basis (difference ring u v).terms → IsReducedBy basis u.terms → IsReducedBy basis v.terms → u.terms ≡ v.terms
+same_reduced ring positive basis u v h k divided free_u free_v =
+    add-negative_same (place_keys ring.weights) ring.modulus positive.modulus u.terms v.terms h k
+    (IsReducedBy-none basis (add (place_cmp ring.weights) ring.modulus u.terms (negative ring.modulus v.terms))
+    (EachPlace-add (λ l. IsFalse (is_divided basis l)) (place_cmp ring.weights) ring.modulus u.terms (negative ring.modulus v.terms) free_u (EachPlace-negative (λ l. IsFalse (is_divided basis l)) ring.modulus v.terms free_v))
     divided)

@@ -9,6 +9,7 @@ use Rattle.sf_algebra.specs.Divisibility.{quotient}
 use Rattle.sf_algebra.specs.MatrixOperations.{row_combination}
 use Rattle.sf_algebra.specs.Multiples.{place_product, term_product}
 use Rattle.sf_algebra.specs.Residues.{sum_mod, product_mod, negative_mod}
+use Rattle.sf_algebra.specs.Rings.{Ring, IsRing}
 use Rattle.sf_algebra.specs.Sums.{add, coefficient_at}
 use Rattle.sf_algebra.specs.Terms.{Term, IsCanonical}
 use Rattle.sf_algebra.specs.Vectors.{Place, Vector, place_cmp}
@@ -56,82 +57,82 @@ row-is_divided (v ∷ vs) b h =
     of_row (t ∷ ts) e = (Decides-place_divides t.at b).0 e
 
 -- c is a combination whose images are less than b
-pub record IsRepresented (p : ℕ) (rows : List Vector) (b : Place) (c : List (Term Place)) : Type 0 where
+pub record IsRepresented (ring : Ring) (rows : List Vector) (b : Place) (c : List (Term Place)) : Type 0 where
   pub steps : List (Term Place)
-  pub below : AllByRecursion (HasImageBelow rows b) steps
-  pub value : row_combination p rows steps ≡ row_combination p rows c
+  pub below : AllByRecursion (HasImageBelow ring.weights rows b) steps
+  pub value : row_combination ring rows steps ≡ row_combination ring rows c
 
-module _ (p : ℕ) (positive : 0 < p) (rows : List Vector) (monic : AllByRecursion (IsMonicRow p) rows) where
+module _ (ring : Ring) (positive : IsRing ring) (rows : List Vector) (monic : AllByRecursion (IsMonicRow ring) rows) where
   -- the coefficients that cancel the lead t of a combination, where the lead of row i divides it
   module _ (t : Term Place) (i : ℕ) (within : i < length rows) (divides : PlaceDivides (lead_at rows i) t.at) where
     abbrev step : Term Place
     step = record { at = record { position = i; monomial = quotient t.at.monomial (lead_at rows i).monomial }; coefficient = t.coefficient }
 
     abbrev opposite : Term Place
-    opposite = term_product place_product p (negative_one_term p) step
+    opposite = term_product place_product ring.modulus (negative_one_term ring.modulus) step
 
     image_step : image (lead_at rows) step.at ≡ t.at
     image_step = place_product-quotient (lead_at rows i) t.at divides
 
-    image_opposite : place_cmp (image (lead_at rows) opposite.at) t.at ≡ Equal
-    image_opposite = ap (λ k. place_cmp (image (lead_at rows) k) t.at) (place_product-one step.at) ∙ ap (λ k. place_cmp k t.at) image_step ∙ tied_itself place_cmp_total t.at
+    image_opposite : place_cmp ring.weights (image (lead_at rows) opposite.at) t.at ≡ Equal
+    image_opposite = ap (λ k. place_cmp ring.weights (image (lead_at rows) k) t.at) (place_product-one step.at) ∙ ap (λ k. place_cmp ring.weights k t.at) image_step ∙ tied_itself (place_cmp_total ring.weights) t.at
 
-    opposite_most : EachPlace (IsAtMost (IsInside rows) (lead_at rows) t.at) (opposite ∷ [])
+    opposite_most : EachPlace (IsAtMost ring.weights (IsInside rows) (lead_at rows) t.at) (opposite ∷ [])
     opposite_most = ((within, Equal-not_Greater _ image_opposite), tt)
 
-    coefficient_at-opposite : coefficient_at place_cmp p t.at (row_combination p rows (opposite ∷ [])) ≡ product_mod p (negative_mod p 1) t.coefficient
+    coefficient_at-opposite : coefficient_at (place_cmp ring.weights) ring.modulus t.at (row_combination ring rows (opposite ∷ [])) ≡ product_mod ring.modulus (negative_mod ring.modulus 1) t.coefficient
     coefficient_at-opposite =
-        let top = top_part (lead_at rows) t.at in
-        coefficient_at-top p (lead_bound rows) (IsInside rows) rows (lead_at rows) (monic_leads p rows monic (IsInside rows) (λ k h. h)) t.at (opposite ∷ []) opposite_most
-        ∙ total-cons p top opposite []
-        ∙ (λ k. sum_mod p (if is_eq (image_opposite k) then product_mod p (negative_mod p 1) t.coefficient else 0) (total-nil p top k))
-        ∙ sum_mod-zero p (product_mod p (negative_mod p 1) t.coefficient)
-        ∙ product_mod-reduced p (negative_mod p 1) t.coefficient
+        let top = top_part ring.weights (lead_at rows) t.at in
+        coefficient_at-top ring (lead_bound rows) (IsInside rows) rows (lead_at rows) (monic_leads ring rows monic (IsInside rows) (λ k h. h)) t.at (opposite ∷ []) opposite_most
+        ∙ total-cons ring.modulus top opposite []
+        ∙ (λ k. sum_mod ring.modulus (if is_eq (image_opposite k) then product_mod ring.modulus (negative_mod ring.modulus 1) t.coefficient else 0) (total-nil ring.modulus top k))
+        ∙ sum_mod-zero ring.modulus (product_mod ring.modulus (negative_mod ring.modulus 1) t.coefficient)
+        ∙ product_mod-reduced ring.modulus (negative_mod ring.modulus 1) t.coefficient
 
     -- the lead is gone
-    cancelled : (c ts : List (Term Place)) → row_combination p rows c ≡ t ∷ ts → IsAboveEach place_cmp t.at (row_combination p rows (c ++ opposite ∷ []))
+    cancelled : (c ts : List (Term Place)) → row_combination ring rows c ≡ t ∷ ts → IsAboveEach (place_cmp ring.weights) t.at (row_combination ring rows (c ++ opposite ∷ []))
     cancelled c ts e =
-        let canonical : IsCanonical place_cmp p (t ∷ ts) = subst (IsCanonical place_cmp p) e (IsCanonical-row_combination p positive rows c) in
-        let value = row_combination-append p positive rows c (opposite ∷ []) in
-        below_at p t.at (row_combination p rows (c ++ opposite ∷ [])) (IsCanonical-row_combination p positive rows (c ++ opposite ∷ []))
-        (subst (EachPlace (λ k. place_cmp k t.at ≢ Greater)) (sym value)
-        (EachPlace-add (λ k. place_cmp k t.at ≢ Greater) place_cmp p (row_combination p rows c) (row_combination p rows (opposite ∷ []))
-        (subst (EachPlace (λ k. place_cmp k t.at ≢ Greater)) (sym e) (Equal-not_Greater _ (tied_itself place_cmp_total t.at), AllByRecursion-weaken _ _ (λ u less. Less-not_Greater _ less) ts canonical.descending.0))
-        (row_combination-at_most p (lead_bound rows) (IsInside rows) rows (lead_at rows) (monic_leads p rows monic (IsInside rows) (λ k h. h)) t.at (opposite ∷ []) opposite_most)))
-        (ap (coefficient_at place_cmp p t.at) value
-        ∙ coefficient_at-add place_keys p t.at (row_combination p rows c) (row_combination p rows (opposite ∷ []))
-        ∙ (λ k. sum_mod p ((ap (coefficient_at place_cmp p t.at) e ∙ coefficient_at-head place_cmp place_cmp_linear p t ts canonical) k) (coefficient_at-opposite k))
-        ∙ sum_mod-negative_one p t.coefficient positive)
+        let canonical : IsCanonical (place_cmp ring.weights) ring.modulus (t ∷ ts) = subst (IsCanonical (place_cmp ring.weights) ring.modulus) e (IsCanonical-row_combination ring positive.modulus rows c) in
+        let value = row_combination-append ring positive.modulus rows c (opposite ∷ []) in
+        below_at ring t.at (row_combination ring rows (c ++ opposite ∷ [])) (IsCanonical-row_combination ring positive.modulus rows (c ++ opposite ∷ []))
+        (subst (EachPlace (λ k. place_cmp ring.weights k t.at ≢ Greater)) (sym value)
+        (EachPlace-add (λ k. place_cmp ring.weights k t.at ≢ Greater) (place_cmp ring.weights) ring.modulus (row_combination ring rows c) (row_combination ring rows (opposite ∷ []))
+        (subst (EachPlace (λ k. place_cmp ring.weights k t.at ≢ Greater)) (sym e) (Equal-not_Greater _ (tied_itself (place_cmp_total ring.weights) t.at), AllByRecursion-weaken _ _ (λ u less. Less-not_Greater _ less) ts canonical.descending.0))
+        (row_combination-at_most ring (lead_bound rows) (IsInside rows) rows (lead_at rows) (monic_leads ring rows monic (IsInside rows) (λ k h. h)) t.at (opposite ∷ []) opposite_most)))
+        (ap (coefficient_at (place_cmp ring.weights) ring.modulus t.at) value
+        ∙ coefficient_at-add (place_keys ring.weights) ring.modulus t.at (row_combination ring rows c) (row_combination ring rows (opposite ∷ []))
+        ∙ (λ k. sum_mod ring.modulus ((ap (coefficient_at (place_cmp ring.weights) ring.modulus t.at) e ∙ coefficient_at-head (place_cmp ring.weights) (place_cmp_linear ring.weights) ring.modulus t ts canonical) k) (coefficient_at-opposite k))
+        ∙ sum_mod-negative_one ring.modulus t.coefficient positive.modulus)
 
     -- with the step it is back
-    SameTotals-step : (c : List (Term Place)) → SameTotals p ((c ++ opposite ∷ []) ++ step ∷ []) c
+    SameTotals-step : (c : List (Term Place)) → SameTotals ring.modulus ((c ++ opposite ∷ []) ++ step ∷ []) c
     SameTotals-step c =
-        SameTotals-trans p (SameTotals-equal p _ _ (append_assoc c (opposite ∷ []) (step ∷ [])))
-        (SameTotals-trans p
-        (SameTotals-append p (SameTotals-refl p c) (SameTotals-trans p (SameTotals-swap p (opposite ∷ []) (step ∷ [])) (SameTotals-negative place_keys p positive (step ∷ []))))
-        (SameTotals-equal p _ _ (append-nil c)))
+        SameTotals-trans ring.modulus (SameTotals-equal ring.modulus _ _ (append_assoc c (opposite ∷ []) (step ∷ [])))
+        (SameTotals-trans ring.modulus
+        (SameTotals-append ring.modulus (SameTotals-refl ring.modulus c) (SameTotals-trans ring.modulus (SameTotals-swap ring.modulus (opposite ∷ []) (step ∷ [])) (SameTotals-negative (place_keys ring.weights) ring.modulus positive.modulus (step ∷ []))))
+        (SameTotals-equal ring.modulus _ _ (append-nil c)))
 
-    one_step : (b : Place) (c ts : List (Term Place)) → row_combination p rows c ≡ t ∷ ts → place_cmp t.at b ≡ Less → IsRepresented p rows t.at (c ++ opposite ∷ []) → IsRepresented p rows b c
+    one_step : (b : Place) (c ts : List (Term Place)) → row_combination ring rows c ≡ t ∷ ts → place_cmp ring.weights t.at b ≡ Less → IsRepresented ring rows t.at (c ++ opposite ∷ []) → IsRepresented ring rows b c
     one_step b c ts e less h = record {
       steps = h.steps ++ step ∷ [];
       below = AllByRecursion-append _ h.steps (step ∷ [])
-          (AllByRecursion-weaken _ _ (λ u below. (below.0, place_cmp_total.trans (image (lead_at rows) u.at) t.at b below.1 less)) h.steps h.below)
-          ((within, ap (λ k. place_cmp k b) image_step ∙ less), tt);
-      value = row_combination-append p positive rows h.steps (step ∷ [])
-          ∙ ap (λ us. add place_cmp p us (row_combination p rows (step ∷ []))) h.value
-          ∙ sym (row_combination-append p positive rows (c ++ opposite ∷ []) (step ∷ []))
-          ∙ row_combination-SameTotals p positive rows (SameTotals-step c);
+          (AllByRecursion-weaken _ _ (λ u below. (below.0, (place_cmp_total ring.weights).trans (image (lead_at rows) u.at) t.at b below.1 less)) h.steps h.below)
+          ((within, ap (λ k. place_cmp ring.weights k b) image_step ∙ less), tt);
+      value = row_combination-append ring positive.modulus rows h.steps (step ∷ [])
+          ∙ ap (λ us. add (place_cmp ring.weights) ring.modulus us (row_combination ring rows (step ∷ []))) h.value
+          ∙ sym (row_combination-append ring positive.modulus rows (c ++ opposite ∷ []) (step ∷ []))
+          ∙ row_combination-SameTotals ring positive rows (SameTotals-step c);
     }
 
-  module _ (complete : (c : List (Term Place)) → AllByRecursion (IsForRows rows) c → HasDividedLead rows (row_combination p rows c)) where
+  module _ (complete : (c : List (Term Place)) → AllByRecursion (IsForRows rows) c → HasDividedLead rows (row_combination ring rows c)) where
     abbrev RepresentsBelow : Place → Type 0
-    RepresentsBelow b = (c : List (Term Place)) → AllByRecursion (IsForRows rows) c → IsAboveEach place_cmp b (row_combination p rows c) → IsRepresented p rows b c
+    RepresentsBelow b = (c : List (Term Place)) → AllByRecursion (IsForRows rows) c → IsAboveEach (place_cmp ring.weights) b (row_combination ring rows c) → IsRepresented ring rows b c
 
-    represent_step : (b : Place) → ((j : Place) → IsBelow (lead_bound rows) j b → RepresentsBelow j) → RepresentsBelow b
-    represent_step b before c for_rows below = by_value (row_combination p rows c) refl below (complete c for_rows)
+    represent_step : (b : Place) → ((j : Place) → IsBelow ring.weights (lead_bound rows) j b → RepresentsBelow j) → RepresentsBelow b
+    represent_step b before c for_rows below = by_value (row_combination ring rows c) refl below (complete c for_rows)
       where
-        by_value : (v : List (Term Place)) → row_combination p rows c ≡ v → IsAboveEach place_cmp b v → HasDividedLead rows v → IsRepresented p rows b c
-        by_value [] e less divided = record { steps = []; below = tt; value = row_combination-nil p positive rows ∙ sym e }
+        by_value : (v : List (Term Place)) → row_combination ring rows c ≡ v → IsAboveEach (place_cmp ring.weights) b v → HasDividedLead rows v → IsRepresented ring rows b c
+        by_value [] e less divided = record { steps = []; below = tt; value = row_combination-nil ring positive.modulus rows ∙ sym e }
         by_value (t ∷ ts) e less divided =
             let found = row-is_divided rows t.at divided in
             one_step t found.0 found.1 found.2 b c ts e less.0
@@ -139,11 +140,11 @@ module _ (p : ℕ) (positive : 0 < p) (rows : List Vector) (monic : AllByRecursi
             (AllByRecursion-append _ c _ for_rows (found.1, tt))
             (cancelled t found.0 found.1 found.2 c ts e))
 
-    pub represented : (b : Place) (c : List (Term Place)) → AllByRecursion (IsForRows rows) c → IsAboveEach place_cmp b (row_combination p rows c) → IsRepresented p rows b c
-    represented b = place_induction (lead_bound rows) RepresentsBelow represent_step b
+    pub represented : (b : Place) (c : List (Term Place)) → AllByRecursion (IsForRows rows) c → IsAboveEach (place_cmp ring.weights) b (row_combination ring rows c) → IsRepresented ring rows b c
+    represented b = place_induction ring.weights positive.weights (lead_bound rows) RepresentsBelow represent_step b
 
     -- the pairs reduce to zero
-    pub ReducesToZero-complete : (i j : ℕ) → i < length rows → j < length rows → HaveLeadsAtOnePosition rows i j → ReducesToZero p rows i j
+    pub ReducesToZero-complete : (i j : ℕ) → i < length rows → j < length rows → HaveLeadsAtOnePosition rows i j → ReducesToZero ring rows i j
     ReducesToZero-complete i j i_in j_in positions =
-        let h = represented (lcm_place (lead_at rows) i j) (pair_terms p (lead_at rows) i j) (i_in, (j_in, tt)) (s_vector-below p positive rows monic i j i_in j_in positions) in
+        let h = represented (lcm_place (lead_at rows) i j) (pair_terms ring.modulus (lead_at rows) i j) (i_in, (j_in, tt)) (s_vector-below ring positive rows monic i j i_in j_in positions) in
         record { steps = h.steps; below = h.below; value = h.value }

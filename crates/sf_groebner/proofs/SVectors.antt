@@ -5,6 +5,7 @@ use Rattle.std.specs.declared.cmp.Ordering.TheVariants.{Equal, Greater}
 use Rattle.std.specs.Ordering.{is_eq}
 use Rattle.std.specs.List.{AllByRecursion}
 use Rattle.sf_algebra.specs.Residues.{sum_mod, negative_mod}
+use Rattle.sf_algebra.specs.Rings.{Ring, IsRing}
 use Rattle.sf_algebra.specs.Sums.{total, coefficient_at}
 use Rattle.sf_algebra.specs.Terms.{Term, IsCanonical}
 use Rattle.sf_algebra.specs.Vectors.{Place, Vector, place_cmp}
@@ -25,50 +26,50 @@ use Rattle.sf_groebner.proofs.PlaceOrder.{Equal-not_Greater}
 use Rattle.sf_groebner.proofs.TopCoefficients.{coefficient_at-top, row_combination-at_most}
 
 -- a canonical list no place of which is greater than b, and which has no coefficient at b, is below b
-pub below_at : (p : ℕ) (b : Place) (v : List (Term Place)) → IsCanonical place_cmp p v → EachPlace (λ k. place_cmp k b ≢ Greater) v → coefficient_at place_cmp p b v ≡ 0 → IsAboveEach place_cmp b v
-below_at p b [] canonical most none = tt
-below_at p b (t ∷ ts) canonical most none =
-    ordering_cases (place_cmp t.at b)
-    (λ less. (less, AllByRecursion-weaken _ _ (λ u h. place_cmp_total.trans u.at t.at b h less) ts canonical.descending.0))
+pub below_at : (ring : Ring) (b : Place) (v : List (Term Place)) → IsCanonical (place_cmp ring.weights) ring.modulus v → EachPlace (λ k. place_cmp ring.weights k b ≢ Greater) v → coefficient_at (place_cmp ring.weights) ring.modulus b v ≡ 0 → IsAboveEach (place_cmp ring.weights) b v
+below_at ring b [] canonical most none = tt
+below_at ring b (t ∷ ts) canonical most none =
+    ordering_cases (place_cmp ring.weights t.at b)
+    (λ less. (less, AllByRecursion-weaken _ _ (λ u h. (place_cmp_total ring.weights).trans u.at t.at b h less) ts canonical.descending.0))
     (λ equal.
-    let same : coefficient_at place_cmp p t.at (t ∷ ts) ≡ 0 = subst (λ k. coefficient_at place_cmp p k (t ∷ ts) ≡ 0) (sym (place_cmp-Equal t.at b equal)) none in
-    absurd (no_zero t.coefficient canonical.residues.0.0 (sym (coefficient_at-head place_cmp place_cmp_linear p t ts canonical) ∙ same)))
+    let same : coefficient_at (place_cmp ring.weights) ring.modulus t.at (t ∷ ts) ≡ 0 = subst (λ k. coefficient_at (place_cmp ring.weights) ring.modulus k (t ∷ ts) ≡ 0) (sym (place_cmp-Equal ring.weights t.at b equal)) none in
+    absurd (no_zero t.coefficient canonical.residues.0.0 (sym (coefficient_at-head (place_cmp ring.weights) (place_cmp_linear ring.weights) ring.modulus t ts canonical) ∙ same)))
     (λ greater. absurd (most.0 greater))
   where
     no_zero : (n : ℕ) → 0 < n → n ≡ 0 → ⊥
     no_zero n positive e = omega arith
 
-module _ (p : ℕ) (positive : 0 < p) (rows : List Vector) (monic : AllByRecursion (IsMonicRow p) rows) where
+module _ (ring : Ring) (positive : IsRing ring) (rows : List Vector) (monic : AllByRecursion (IsMonicRow ring) rows) where
   -- both images of a pair are the least common multiple
-  image_cmp-first : (i j : ℕ) → place_cmp (image (lead_at rows) (pair_place (lead_at rows) i j)) (lcm_place (lead_at rows) i j) ≡ Equal
+  image_cmp-first : (i j : ℕ) → place_cmp ring.weights (image (lead_at rows) (pair_place (lead_at rows) i j)) (lcm_place (lead_at rows) i j) ≡ Equal
   image_cmp-first i j =
-      ap (λ k. place_cmp k (lcm_place (lead_at rows) i j)) (image-pair_place (lead_at rows) i j) ∙ tied_itself place_cmp_total (lcm_place (lead_at rows) i j)
+      ap (λ k. place_cmp ring.weights k (lcm_place (lead_at rows) i j)) (image-pair_place (lead_at rows) i j) ∙ tied_itself (place_cmp_total ring.weights) (lcm_place (lead_at rows) i j)
 
-  image_cmp-second : (i j : ℕ) → HaveLeadsAtOnePosition rows i j → place_cmp (image (lead_at rows) (pair_place (lead_at rows) j i)) (lcm_place (lead_at rows) i j) ≡ Equal
+  image_cmp-second : (i j : ℕ) → HaveLeadsAtOnePosition rows i j → place_cmp ring.weights (image (lead_at rows) (pair_place (lead_at rows) j i)) (lcm_place (lead_at rows) i j) ≡ Equal
   image_cmp-second i j positions =
-      ap (λ k. place_cmp k (lcm_place (lead_at rows) i j)) (image-pair_place (lead_at rows) j i ∙ sym (lcm_place-comm (lead_at rows) i j positions))
-      ∙ tied_itself place_cmp_total (lcm_place (lead_at rows) i j)
+      ap (λ k. place_cmp ring.weights k (lcm_place (lead_at rows) i j)) (image-pair_place (lead_at rows) j i ∙ sym (lcm_place-comm (lead_at rows) i j positions))
+      ∙ tied_itself (place_cmp_total ring.weights) (lcm_place (lead_at rows) i j)
 
   -- there the coefficients 1 and -1 cancel
-  total-pair_terms : (i j : ℕ) → HaveLeadsAtOnePosition rows i j → total p (top_part (lead_at rows) (lcm_place (lead_at rows) i j)) (pair_terms p (lead_at rows) i j) ≡ 0
+  total-pair_terms : (i j : ℕ) → HaveLeadsAtOnePosition rows i j → total ring.modulus (top_part ring.weights (lead_at rows) (lcm_place (lead_at rows) i j)) (pair_terms ring.modulus (lead_at rows) i j) ≡ 0
   total-pair_terms i j positions =
-      let top = top_part (lead_at rows) (lcm_place (lead_at rows) i j) in
-      let second : Term Place = record { at = pair_place (lead_at rows) j i; coefficient = negative_mod p 1 } in
-      total-cons p top (record { at = pair_place (lead_at rows) i j; coefficient = 1 }) (second ∷ [])
+      let top = top_part ring.weights (lead_at rows) (lcm_place (lead_at rows) i j) in
+      let second : Term Place = record { at = pair_place (lead_at rows) j i; coefficient = negative_mod ring.modulus 1 } in
+      total-cons ring.modulus top (record { at = pair_place (lead_at rows) i j; coefficient = 1 }) (second ∷ [])
       ∙ (λ k.
-      sum_mod p (if is_eq (image_cmp-first i j k) then 1 else 0)
-      ((total-cons p top second []
-      ∙ (λ l. sum_mod p (if is_eq (image_cmp-second i j positions l) then negative_mod p 1 else 0) (total-nil p top l))
-      ∙ sum_mod-zero p (negative_mod p 1)) k))
-      ∙ sum_mod-second p 1 (negative_mod p 1)
-      ∙ sum_mod-one_negative p positive
+      sum_mod ring.modulus (if is_eq (image_cmp-first i j k) then 1 else 0)
+      ((total-cons ring.modulus top second []
+      ∙ (λ l. sum_mod ring.modulus (if is_eq (image_cmp-second i j positions l) then negative_mod ring.modulus 1 else 0) (total-nil ring.modulus top l))
+      ∙ sum_mod-zero ring.modulus (negative_mod ring.modulus 1)) k))
+      ∙ sum_mod-second ring.modulus 1 (negative_mod ring.modulus 1)
+      ∙ sum_mod-one_negative ring.modulus positive.modulus
 
-  pub s_vector-below : (i j : ℕ) → i < length rows → j < length rows → HaveLeadsAtOnePosition rows i j → IsAboveEach place_cmp (lcm_place (lead_at rows) i j) (s_vector p rows i j)
+  pub s_vector-below : (i j : ℕ) → i < length rows → j < length rows → HaveLeadsAtOnePosition rows i j → IsAboveEach (place_cmp ring.weights) (lcm_place (lead_at rows) i j) (s_vector ring rows i j)
   s_vector-below i j i_in j_in positions =
       let b = lcm_place (lead_at rows) i j in
-      let terms = pair_terms p (lead_at rows) i j in
-      let leads = monic_leads p rows monic (IsInside rows) (λ k h. h) in
-      let most : EachPlace (IsAtMost (IsInside rows) (lead_at rows) (lcm_place (lead_at rows) i j)) (pair_terms p (lead_at rows) i j) = ((i_in, Equal-not_Greater _ (image_cmp-first i j)), ((j_in, Equal-not_Greater _ (image_cmp-second i j positions)), tt)) in
-      below_at p b (s_vector p rows i j) (IsCanonical-row_combination p positive rows terms)
-      (row_combination-at_most p (lead_bound rows) (IsInside rows) rows (lead_at rows) leads b terms most)
-      (coefficient_at-top p (lead_bound rows) (IsInside rows) rows (lead_at rows) leads b terms most ∙ total-pair_terms i j positions)
+      let terms = pair_terms ring.modulus (lead_at rows) i j in
+      let leads = monic_leads ring rows monic (IsInside rows) (λ k h. h) in
+      let most : EachPlace (IsAtMost ring.weights (IsInside rows) (lead_at rows) (lcm_place (lead_at rows) i j)) (pair_terms ring.modulus (lead_at rows) i j) = ((i_in, Equal-not_Greater _ (image_cmp-first i j)), ((j_in, Equal-not_Greater _ (image_cmp-second i j positions)), tt)) in
+      below_at ring b (s_vector ring rows i j) (IsCanonical-row_combination ring positive.modulus rows terms)
+      (row_combination-at_most ring (lead_bound rows) (IsInside rows) rows (lead_at rows) leads b terms most)
+      (coefficient_at-top ring (lead_bound rows) (IsInside rows) rows (lead_at rows) leads b terms most ∙ total-pair_terms i j positions)

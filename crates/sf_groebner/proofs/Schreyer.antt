@@ -5,6 +5,7 @@ use Rattle.std.specs.List.{AllByRecursion, flat_map}
 use Rattle.sf_algebra.specs.MatrixOperations.{row_at, row_combination}
 use Rattle.sf_algebra.specs.Monomials.{Monomial, one}
 use Rattle.sf_algebra.specs.Multiples.{place_product, term_product, multiple, combination_terms, combination}
+use Rattle.sf_algebra.specs.Rings.{Ring, IsRing}
 use Rattle.sf_algebra.specs.Sums.{normal, add}
 use Rattle.sf_algebra.specs.Terms.{Term}
 use Rattle.sf_algebra.specs.Vectors.{Place, Vector, place_cmp}
@@ -28,105 +29,105 @@ use Rattle.sf_groebner.proofs.Standard.{standard}
 use Rattle.sf_groebner.proofs.TopCoefficients.{Begins}
 
 -- c is a combination of the rows zs
-pub record IsSpanned (p : ℕ) (zs : List Vector) (c : List (Term Place)) : Type 0 where
+pub record IsSpanned (ring : Ring) (zs : List Vector) (c : List (Term Place)) : Type 0 where
   pub coefficients : List (Term Place)
   pub for_rows : AllByRecursion (IsForRows zs) coefficients
-  pub value : row_combination p zs coefficients ≡ normal place_cmp p c
+  pub value : row_combination ring zs coefficients ≡ normal (place_cmp ring.weights) ring.modulus c
 
 -- the coefficients of a pair, by the sum of its syzygy and its steps
-pub SameTotals-from_sum : (p : ℕ) (z steps terms : List (Term Place)) → add place_cmp p z steps ≡ normal place_cmp p terms → SameTotals p (z ++ steps) terms
+pub SameTotals-from_sum : (ring : Ring) (z steps terms : List (Term Place)) → add (place_cmp ring.weights) ring.modulus z steps ≡ normal (place_cmp ring.weights) ring.modulus terms → SameTotals ring.modulus (z ++ steps) terms
 unfolding add
-SameTotals-from_sum p z steps terms e = SameTotals-from_normal place_cmp place_cmp_linear p (z ++ steps) terms e
+SameTotals-from_sum ring z steps terms e = SameTotals-from_normal (place_cmp ring.weights) (place_cmp_linear ring.weights) ring.modulus (z ++ steps) terms e
 
-module _ (p : ℕ) (positive : 0 < p) where
-  multiple-normal : (s : Term Monomial) (c : List (Term Place)) → multiple place_cmp place_product p s (normal place_cmp p c) ≡ normal place_cmp p (map (term_product place_product p s) c)
+module _ (ring : Ring) (positive : IsRing ring) where
+  multiple-normal : (s : Term Monomial) (c : List (Term Place)) → multiple (place_cmp ring.weights) place_product ring.modulus s (normal (place_cmp ring.weights) ring.modulus c) ≡ normal (place_cmp ring.weights) ring.modulus (map (term_product place_product ring.modulus s) c)
   unfolding multiple
-  multiple-normal s c = normal-SameTotals place_cmp place_cmp_linear p positive (SameTotals-products p place_product s (SameTotals-normal place_cmp place_cmp_linear p c))
+  multiple-normal s c = normal-SameTotals (place_cmp ring.weights) (place_cmp_linear ring.weights) ring.modulus positive.modulus (SameTotals-products ring.modulus place_product s (SameTotals-normal (place_cmp ring.weights) (place_cmp_linear ring.weights) ring.modulus c))
 
-  pub IsSpanned-module : (zs : List Vector) → IsModule p (IsSpanned p zs)
+  pub IsSpanned-module : (zs : List Vector) → IsModule ring.modulus (IsSpanned ring zs)
   IsSpanned-module zs = record {
-    has_none = record { coefficients = []; for_rows = tt; value = row_combination-nil p positive zs ∙ sym (normal-nil place_cmp p) };
+    has_none = record { coefficients = []; for_rows = tt; value = row_combination-nil ring positive.modulus zs ∙ sym (normal-nil (place_cmp ring.weights) ring.modulus) };
     has_sums = λ us vs h k. record {
       coefficients = h.coefficients ++ k.coefficients;
       for_rows = AllByRecursion-append _ h.coefficients k.coefficients h.for_rows k.for_rows;
-      value = row_combination-append p positive zs h.coefficients k.coefficients
-          ∙ (λ i. add place_cmp p (h.value i) (k.value i))
-          ∙ sym (normal-append place_cmp place_cmp_linear p positive us vs);
+      value = row_combination-append ring positive.modulus zs h.coefficients k.coefficients
+          ∙ (λ i. add (place_cmp ring.weights) ring.modulus (h.value i) (k.value i))
+          ∙ sym (normal-append (place_cmp ring.weights) (place_cmp_linear ring.weights) ring.modulus positive.modulus us vs);
     };
     has_products = λ s us h. record {
-      coefficients = map (term_product place_product p s) h.coefficients;
-      for_rows = EachPlace-products (IsInside zs) (IsInside zs) p s (λ k inside. inside) h.coefficients h.for_rows;
-      value = row_combination-products p positive zs s h.coefficients ∙ ap (multiple place_cmp place_product p s) h.value ∙ multiple-normal s us;
+      coefficients = map (term_product place_product ring.modulus s) h.coefficients;
+      for_rows = EachPlace-products (IsInside zs) (IsInside zs) ring.modulus s (λ k inside. inside) h.coefficients h.for_rows;
+      value = row_combination-products ring positive zs s h.coefficients ∙ ap (multiple (place_cmp ring.weights) place_product ring.modulus s) h.value ∙ multiple-normal s us;
     };
     has_same = λ us vs same h. record {
       coefficients = h.coefficients;
       for_rows = h.for_rows;
-      value = h.value ∙ normal-SameTotals place_cmp place_cmp_linear p positive same;
+      value = h.value ∙ normal-SameTotals (place_cmp ring.weights) (place_cmp_linear ring.weights) ring.modulus positive.modulus same;
     };
   }
 
-  multiple-one_normal : (us : List (Term Place)) → multiple place_cmp place_product p (record { at = one; coefficient = 1 }) us ≡ normal place_cmp p us
+  multiple-one_normal : (us : List (Term Place)) → multiple (place_cmp ring.weights) place_product ring.modulus (record { at = one; coefficient = 1 }) us ≡ normal (place_cmp ring.weights) ring.modulus us
   unfolding multiple
-  multiple-one_normal us = normal-SameTotals place_cmp place_cmp_linear p positive (SameTotals-products_one place_keys p us)
+  multiple-one_normal us = normal-SameTotals (place_cmp ring.weights) (place_cmp_linear ring.weights) ring.modulus positive.modulus (SameTotals-products_one (place_keys ring.weights) ring.modulus us)
 
   -- a row is one of their combinations
-  pub IsSpanned-row : (zs : List Vector) (i : ℕ) → i < length zs → IsSpanned p zs (row_at zs i)
+  pub IsSpanned-row : (zs : List Vector) (i : ℕ) → i < length zs → IsSpanned ring zs (row_at zs i)
   IsSpanned-row zs i inside = record {
     coefficients = unit_term i ∷ [];
     for_rows = (inside, tt);
-    value = row_combination-one p positive zs (unit_term i) ∙ multiple-one_normal (row_at zs i);
+    value = row_combination-one ring positive.modulus zs (unit_term i) ∙ multiple-one_normal (row_at zs i);
   }
 
   -- a combination of empty rows
-  combination-empty : (c : List (Term Place)) → combination place_cmp place_product p (λ (k : Place). k.monomial) (λ (k : Place). []) c ≡ []
+  combination-empty : (c : List (Term Place)) → combination (place_cmp ring.weights) place_product ring.modulus (λ (k : Place). k.monomial) (λ (k : Place). []) c ≡ []
   unfolding combination combination_terms
-  combination-empty c = ap (normal place_cmp p) (none c) ∙ normal-nil place_cmp p
+  combination-empty c = ap (normal (place_cmp ring.weights) ring.modulus) (none c) ∙ normal-nil (place_cmp ring.weights) ring.modulus
     where
-      none : (c : List (Term Place)) → flat_map (λ (t : Term Place). map (term_product place_product p (record { at = t.at.monomial; coefficient = t.coefficient })) []) c ≡ []
+      none : (c : List (Term Place)) → flat_map (λ (t : Term Place). map (term_product place_product ring.modulus (record { at = t.at.monomial; coefficient = t.coefficient })) []) c ≡ []
       none [] = refl
       none (t ∷ c) = none c
 
-  module _ (rows zs : List Vector) (syzygies : AllByRecursion (λ (z : Vector). row_combination p rows z.terms ≡ []) zs) where
-    row_at-syzygy : (i : ℕ) → row_combination p rows (row_at zs i) ≡ []
+  module _ (rows zs : List Vector) (syzygies : AllByRecursion (λ (z : Vector). row_combination ring rows z.terms ≡ []) zs) where
+    row_at-syzygy : (i : ℕ) → row_combination ring rows (row_at zs i) ≡ []
     row_at-syzygy i = each zs syzygies i
       where
-        each : (vs : List Vector) → AllByRecursion (λ (z : Vector). row_combination p rows z.terms ≡ []) vs → (i : ℕ) → row_combination p rows (row_at vs i) ≡ []
-        each [] h i = row_combination-nil p positive rows
+        each : (vs : List Vector) → AllByRecursion (λ (z : Vector). row_combination ring rows z.terms ≡ []) vs → (i : ℕ) → row_combination ring rows (row_at vs i) ≡ []
+        each [] h i = row_combination-nil ring positive.modulus rows
         each (v ∷ vs) h zero = h.0
         each (v ∷ vs) h (suc i) = each vs h.1 i
 
     -- a combination of syzygies is a syzygy
-    pub IsSpanned-syzygy : (c : List (Term Place)) → IsSpanned p zs c → row_combination p rows c ≡ []
+    pub IsSpanned-syzygy : (c : List (Term Place)) → IsSpanned ring zs c → row_combination ring rows c ≡ []
     IsSpanned-syzygy c h =
-        row_combination-SameTotals p positive rows (SameTotals-sym p (SameTotals-normal place_cmp place_cmp_linear p c))
-        ∙ ap (row_combination p rows) (sym h.value)
-        ∙ combination_combination place_keys place_keys p positive (λ k. k.monomial) (λ k. row_at rows k.position) (position_rows (row_at rows)) (λ k. k.monomial) (λ k. row_at zs k.position) h.coefficients
-        ∙ (λ i. combination place_cmp place_product p (λ (k : Place). k.monomial) (λ (k : Place). row_at-syzygy k.position i) h.coefficients)
+        row_combination-SameTotals ring positive rows (SameTotals-sym ring.modulus (SameTotals-normal (place_cmp ring.weights) (place_cmp_linear ring.weights) ring.modulus c))
+        ∙ ap (row_combination ring rows) (sym h.value)
+        ∙ combination_combination (place_keys ring.weights) (place_keys ring.weights) ring.modulus positive.modulus (λ k. k.monomial) (λ k. row_at rows k.position) (position_rows ring.weights (row_at rows)) (λ k. k.monomial) (λ k. row_at zs k.position) h.coefficients
+        ∙ (λ i. combination (place_cmp ring.weights) place_product ring.modulus (λ (k : Place). k.monomial) (λ (k : Place). row_at-syzygy k.position i) h.coefficients)
         ∙ combination-empty h.coefficients
 
-    module _ (monic : AllByRecursion (IsMonicRow p) rows) where
+    module _ (monic : AllByRecursion (IsMonicRow ring) rows) where
       -- the theorem for coefficients at the places in In
       pub schreyer_at : (In : Place → Type 0) → ((k : Place) → In k → k.position < length rows)
           → ((j k : Place) → In j → In k → image (lead_at rows) j ≡ image (lead_at rows) k → j.position < k.position
-          → IsSettled p (λ u. In (place_product (cofactor (lead_at rows) j k) u)) (lead_at rows) (IsSpanned p zs) (pair_place (lead_at rows) j.position k.position) (pair_place (lead_at rows) k.position j.position))
-          → (c : List (Term Place)) → EachPlace In c → row_combination p rows c ≡ [] → IsSpanned p zs c
+          → IsSettled ring (λ u. In (place_product (cofactor (lead_at rows) j k) u)) (lead_at rows) (IsSpanned ring zs) (pair_place (lead_at rows) j.position k.position) (pair_place (lead_at rows) k.position j.position))
+          → (c : List (Term Place)) → EachPlace In c → row_combination ring rows c ≡ [] → IsSpanned ring zs c
       schreyer_at In inside pairs c h none =
           ⊎_elim
-          (λ (member : IsSpanned p zs c). member)
-          (λ (found : (k : Place) × In k × Begins (image (lead_at rows) k) (row_combination p rows c)). absurd (nothing_begins (image (lead_at rows) found.0) (row_combination p rows c) none found.2))
-          (standard p (lead_bound rows) positive In rows (lead_at rows) (monic_leads p rows monic In inside) (IsSpanned p zs) (IsSpanned-module zs)
-          (settled_pairs p (IsSpanned p zs) (IsSpanned-module zs) In (lead_at rows) positive pairs) IsSpanned-syzygy c h)
+          (λ (member : IsSpanned ring zs c). member)
+          (λ (found : (k : Place) × In k × Begins (image (lead_at rows) k) (row_combination ring rows c)). absurd (nothing_begins (image (lead_at rows) found.0) (row_combination ring rows c) none found.2))
+          (standard ring (lead_bound rows) positive In rows (lead_at rows) (monic_leads ring rows monic In inside) (IsSpanned ring zs) (IsSpanned-module zs)
+          (settled_pairs ring (IsSpanned ring zs) (IsSpanned-module zs) In (lead_at rows) positive pairs) IsSpanned-syzygy c h)
         where
           nothing_begins : (b : Place) (v : List (Term Place)) → v ≡ [] → Begins b v → ⊥
           nothing_begins b v none begins = let shape = sym begins.shape ∙ none in cc
 
       -- the theorem
-      pub schreyer : ((i j : ℕ) → i < j → j < length rows → HaveLeadsAtOnePosition rows i j → (k : ℕ) × (k < length zs) × IsPairSyzygy p rows i j (row_at zs k))
-          → (c : List (Term Place)) → AllByRecursion (IsForRows rows) c → row_combination p rows c ≡ [] → IsSpanned p zs c
+      pub schreyer : ((i j : ℕ) → i < j → j < length rows → HaveLeadsAtOnePosition rows i j → (k : ℕ) × (k < length zs) × IsPairSyzygy ring rows i j (row_at zs k))
+          → (c : List (Term Place)) → AllByRecursion (IsForRows rows) c → row_combination ring rows c ≡ [] → IsSpanned ring zs c
       schreyer pairs =
           schreyer_at (IsInside rows) (λ k h. h)
           (λ j k j_in k_in e earlier.
           let positions = same_lead_position (lead_at rows) j k e in
           let found = pairs j.position k.position earlier k_in positions in
-          settled-syzygy p positive rows (IsInside rows) (lead_at rows) j.position k.position positions (IsSpanned p zs) found.2.steps (row_at zs found.0) found.2.below
-          (IsSpanned-row zs found.0 found.1) (SameTotals-from_sum p (row_at zs found.0) found.2.steps (pair_terms p (lead_at rows) j.position k.position) found.2.sum))
+          settled-syzygy ring positive rows (IsInside rows) (lead_at rows) j.position k.position positions (IsSpanned ring zs) found.2.steps (row_at zs found.0) found.2.below
+          (IsSpanned-row zs found.0 found.1) (SameTotals-from_sum ring (row_at zs found.0) found.2.steps (pair_terms ring.modulus (lead_at rows) j.position k.position) found.2.sum))

@@ -4,6 +4,7 @@ use Rattle.sf_algebra.specs.DegreeParts.{degree_part}
 use Rattle.sf_algebra.specs.Groups.{IsSub, IsWithin, Whole, ImageOf, PreimageOf, KernelOf}
 use Rattle.sf_algebra.specs.Matrices.{Matrix, IsMatrix, row_degrees}
 use Rattle.sf_algebra.specs.MatrixOperations.{row_combination}
+use Rattle.sf_algebra.specs.Rings.{Ring, IsRing}
 use Rattle.sf_algebra.specs.Terms.{IsCanonical}
 use Rattle.sf_algebra.specs.Vectors.{Vector, place_cmp, IsVector}
 use Rattle.sf_algebra.proofs.Coordinates.{AreCoordinates, coordinates-differ}
@@ -18,72 +19,72 @@ use Rattle.sf_groebner.proofs.Modules.{difference}
 use Rattle.sf_groebner.specs.Spans.{InSpan, IsSyzygy}
 
 -- the vectors of degree d that a module N has
-abbrev pub of_degree : (Vector → Type 0) → (p : ℕ) (positive : 0 < p) (degrees : List ℤ) (d : ℤ) → (vectors_of_degree p positive degrees d).V → Type 0
-of_degree N p positive degrees d v = N (record { degree = d; terms = v.0 })
+abbrev pub of_degree : (Vector → Type 0) → (ring : Ring) (positive : IsRing ring) (degrees : List ℤ) (d : ℤ) → (vectors_of_degree ring positive.modulus degrees d).V → Type 0
+of_degree N ring positive degrees d v = N (record { degree = d; terms = v.0 })
 
-module _ (m : Matrix) (positive : 0 < m.modulus) (d : ℤ) where
+module _ (m : Matrix) (positive : IsRing m.ring) (d : ℤ) where
   -- coefficients of degree d that a module of coefficients has, and vectors of degree d that a module has
-  abbrev pub of_coefficients : (Vector → Type 0) → (coefficients_of_degree m positive d).V → Type 0
-  of_coefficients N = of_degree N m.modulus positive (row_degrees m) d
+  abbrev pub of_coefficients : (Vector → Type 0) → (coefficients_of_degree m positive.modulus d).V → Type 0
+  of_coefficients N = of_degree N m.ring positive (row_degrees m) d
 
-  abbrev pub of_values : (Vector → Type 0) → (values_of_degree m positive d).V → Type 0
-  of_values N = of_degree N m.modulus positive m.target d
+  abbrev pub of_values : (Vector → Type 0) → (values_of_degree m positive.modulus d).V → Type 0
+  of_values N = of_degree N m.ring positive m.target d
 
   module _ (is_matrix : IsMatrix m) where
     -- the vectors of degree d in the span are the combinations with coefficients of degree d
-    pub InSpan-image : IsWithin (of_values (InSpan m)) (ImageOf (combined_matrix m positive d is_matrix) Whole)
+    pub InSpan-image : IsWithin (of_values (InSpan m)) (ImageOf (combined_matrix m positive.modulus d is_matrix) Whole)
     InSpan-image v h =
         let degree : (h.0).degree ≡ d = ap (λ (w : Vector). w.degree) h.2 in
-        let c = subst (λ e. IsVector m.modulus (row_degrees m) (record { degree = e; terms = (h.0).terms })) degree h.1 in
-        (((h.0).terms, c), tt, same_vector m.modulus m.target d _ v (ap (λ (w : Vector). w.terms) h.2))
+        let c = subst (λ e. IsVector m.ring (row_degrees m) (record { degree = e; terms = (h.0).terms })) degree h.1 in
+        (((h.0).terms, c), tt, same_vector m.ring m.target d _ v (ap (λ (w : Vector). w.terms) h.2))
 
-    pub image-InSpan : IsWithin (ImageOf (combined_matrix m positive d is_matrix) Whole) (of_values (InSpan m))
+    pub image-InSpan : IsWithin (ImageOf (combined_matrix m positive.modulus d is_matrix) Whole) (of_values (InSpan m))
     image-InSpan v h = (record { degree = d; terms = (h.0).0 }, (h.0).1, λ i. record { degree = d; terms = (h.2 i).0 })
 
-    pub InSpan-sub : IsSub (values_of_degree m positive d) (of_values (InSpan m))
+    pub InSpan-sub : IsSub (values_of_degree m positive.modulus d) (of_values (InSpan m))
     InSpan-sub =
-        same-sub (values_of_degree m positive d) (ImageOf (combined_matrix m positive d is_matrix) Whole) (of_values (InSpan m)) image-InSpan InSpan-image
-        (ImageOf-sub (coefficients_of_degree m positive d) (values_of_degree m positive d) (combined_matrix m positive d is_matrix) (combined_matrix-map m positive d is_matrix) Whole
-        (Whole-sub (coefficients_of_degree m positive d)))
+        same-sub (values_of_degree m positive.modulus d) (ImageOf (combined_matrix m positive.modulus d is_matrix) Whole) (of_values (InSpan m)) image-InSpan InSpan-image
+        (ImageOf-sub (coefficients_of_degree m positive.modulus d) (values_of_degree m positive.modulus d) (combined_matrix m positive.modulus d is_matrix) (combined_matrix-map m positive.modulus d is_matrix) Whole
+        (Whole-sub (coefficients_of_degree m positive.modulus d)))
 
     -- the syzygies of degree d are the kernel
-    pub IsSyzygy-sub : IsSub (coefficients_of_degree m positive d) (of_coefficients (IsSyzygy m))
+    pub IsSyzygy-sub : IsSub (coefficients_of_degree m positive.modulus d) (of_coefficients (IsSyzygy m))
     IsSyzygy-sub =
-        same-sub (coefficients_of_degree m positive d) (KernelOf (values_of_degree m positive d) (combined_matrix m positive d is_matrix)) (of_coefficients (IsSyzygy m))
-        (λ c h. record { coefficients = c.1; zero = λ i. (h i).0 }) (λ c h. same_vector m.modulus m.target d _ _ h.zero)
-        (KernelOf-sub (coefficients_of_degree m positive d) (values_of_degree m positive d) (combined_matrix m positive d is_matrix) (combined_matrix-map m positive d is_matrix))
+        same-sub (coefficients_of_degree m positive.modulus d) (KernelOf (values_of_degree m positive.modulus d) (combined_matrix m positive.modulus d is_matrix)) (of_coefficients (IsSyzygy m))
+        (λ c h. record { coefficients = c.1; zero = λ i. (h i).0 }) (λ c h. same_vector m.ring m.target d _ _ h.zero)
+        (KernelOf-sub (coefficients_of_degree m positive.modulus d) (values_of_degree m positive.modulus d) (combined_matrix m positive.modulus d is_matrix) (combined_matrix-map m positive.modulus d is_matrix))
 
-    module _ (B : Vector → Type 0) (sub : IsSub (values_of_degree m positive d) (of_values B)) where
+    module _ (B : Vector → Type 0) (sub : IsSub (values_of_degree m positive.modulus d) (of_values B)) where
       -- the relations modulo B are the coefficients whose combination is in B
-      pub IsRelation-sub : IsSub (coefficients_of_degree m positive d) (of_coefficients (IsRelation m B))
+      pub IsRelation-sub : IsSub (coefficients_of_degree m positive.modulus d) (of_coefficients (IsRelation m B))
       IsRelation-sub =
-          same-sub (coefficients_of_degree m positive d) (PreimageOf (combined_matrix m positive d is_matrix) (of_values B)) (of_coefficients (IsRelation m B))
+          same-sub (coefficients_of_degree m positive.modulus d) (PreimageOf (combined_matrix m positive.modulus d is_matrix) (of_values B)) (of_coefficients (IsRelation m B))
           (λ c h. record { coefficients = c.1; inside = h }) (λ c h. h.inside)
-          (PreimageOf-sub (coefficients_of_degree m positive d) (values_of_degree m positive d) (combined_matrix m positive d is_matrix) (combined_matrix-map m positive d is_matrix) (of_values B) sub)
+          (PreimageOf-sub (coefficients_of_degree m positive.modulus d) (values_of_degree m positive.modulus d) (combined_matrix m positive.modulus d is_matrix) (combined_matrix-map m positive.modulus d is_matrix) (of_values B) sub)
 
       -- two coordinates of one vector modulo B differ by a relation
-      pub coordinates-relation : (v : (values_of_degree m positive d).V) (c e : (coefficients_of_degree m positive d).V)
-          → AreCoordinates (values_of_degree m positive d) (combined_matrix m positive d is_matrix) (of_values B) v c
-          → AreCoordinates (values_of_degree m positive d) (combined_matrix m positive d is_matrix) (of_values B) v e
-          → IsRelation m B (difference m.modulus (record { degree = d; terms = c.0 }) (record { degree = d; terms = e.0 }))
+      pub coordinates-relation : (v : (values_of_degree m positive.modulus d).V) (c e : (coefficients_of_degree m positive.modulus d).V)
+          → AreCoordinates (values_of_degree m positive.modulus d) (combined_matrix m positive.modulus d is_matrix) (of_values B) v c
+          → AreCoordinates (values_of_degree m positive.modulus d) (combined_matrix m positive.modulus d is_matrix) (of_values B) v e
+          → IsRelation m B (difference m.ring (record { degree = d; terms = c.0 }) (record { degree = d; terms = e.0 }))
       coordinates-relation v c e h k =
-          let C = coefficients_of_degree m positive d in
+          let C = coefficients_of_degree m positive.modulus d in
           record {
             coefficients = (C.plus c (C.minus e)).1;
-            inside = coordinates-differ C (values_of_degree m positive d) (combined_matrix m positive d is_matrix) (combined_matrix-map m positive d is_matrix) (of_values B) sub v c e h k;
+            inside = coordinates-differ C (values_of_degree m positive.modulus d) (combined_matrix m positive.modulus d is_matrix) (combined_matrix-map m positive.modulus d is_matrix) (of_values B) sub v c e h k;
           }
 
-module _ (m : Matrix) (positive : 0 < m.modulus) where
+module _ (m : Matrix) (positive : IsRing m.ring) where
   -- a vector in the span is in it with coefficients of no degree in particular
-  pub InSpan-SpanOf : (v : Vector) (canonical : IsCanonical place_cmp m.modulus v.terms) → InSpan m v → SpanOf m.modulus positive m.rows (v.terms, canonical)
-  InSpan-SpanOf v canonical h = (((h.0).terms, (h.1).canonical), tt, same_canonical place_cmp m.modulus _ _ (ap (λ (w : Vector). w.terms) h.2))
+  pub InSpan-SpanOf : (v : Vector) (canonical : IsCanonical (place_cmp m.ring.weights) m.ring.modulus v.terms) → InSpan m v → SpanOf m.ring positive.modulus m.rows (v.terms, canonical)
+  InSpan-SpanOf v canonical h = (((h.0).terms, (h.1).canonical), tt, same_canonical (place_cmp m.ring.weights) m.ring.modulus _ _ (ap (λ (w : Vector). w.terms) h.2))
 
   -- with any coefficients it is in the span: those of its degree do
-  pub SpanOf-InSpan : IsMatrix m → (v : Vector) (vector : IsVector m.modulus m.target v) → SpanOf m.modulus positive m.rows (v.terms, vector.canonical) → InSpan m v
+  pub SpanOf-InSpan : IsMatrix m → (v : Vector) (vector : IsVector m.ring m.target v) → SpanOf m.ring positive.modulus m.rows (v.terms, vector.canonical) → InSpan m v
   SpanOf-InSpan is_matrix v vector h =
-      let value : row_combination m.modulus m.rows (h.0).0 ≡ v.terms = λ i. (h.2 i).0 in
-      let c : Vector = record { degree = v.degree; terms = degree_part (row_degrees m) v.degree (h.0).0 } in (
+      let value : row_combination m.ring m.rows (h.0).0 ≡ v.terms = λ i. (h.2 i).0 in
+      let c : Vector = record { degree = v.degree; terms = degree_part m.ring.weights (row_degrees m) v.degree (h.0).0 } in (
         c,
-        record { canonical = IsCanonical-filter _ place_cmp m.modulus (h.0).0 (h.0).1; homogeneous = IsHomogeneous-degree_part (row_degrees m) v.degree (h.0).0 },
-        λ i. record { degree = v.degree; terms = row_combination-IsVector m positive is_matrix v vector (h.0).0 value i },
+        record { canonical = IsCanonical-filter _ (place_cmp m.ring.weights) m.ring.modulus (h.0).0 (h.0).1; homogeneous = IsHomogeneous-degree_part m.ring.weights (row_degrees m) v.degree (h.0).0 },
+        λ i. record { degree = v.degree; terms = row_combination-IsVector m positive.modulus is_matrix v vector (h.0).0 value i },
       )

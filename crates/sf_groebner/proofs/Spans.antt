@@ -3,6 +3,7 @@ use Rattle.std.proofs.Common.{◌≡◌, ℕ, ◌<◌, List, [], ◌+◌, length
 use Rattle.sf_algebra.specs.Matrices.{Matrix, row_degrees, IsMatrix}
 use Rattle.sf_algebra.specs.MatrixOperations.{row_combination}
 use Rattle.sf_algebra.specs.Multiples.{negative}
+use Rattle.sf_algebra.specs.Rings.{Ring, IsRing}
 use Rattle.sf_algebra.specs.Sums.{add}
 use Rattle.sf_algebra.specs.Terms.{Term, IsCanonical}
 use Rattle.sf_algebra.specs.Vectors.{Place, Vector, place_cmp, IsVector}
@@ -16,62 +17,62 @@ use Rattle.sf_groebner.specs.Spans.{combined, InSpan, IsSyzygy, graph_degrees, c
 use Rattle.sf_groebner.proofs.Modules.{difference, IsModuleLike}
 use Rattle.sf_groebner.proofs.PartSums.{part_terms-difference}
 
-pub IsVector-difference : (p : ℕ) → 0 < p → (degrees : List ℤ) (u v : Vector) → IsVector p degrees u → IsVector p degrees v → u.degree ≡ v.degree → IsVector p degrees (difference p u v)
-IsVector-difference p positive degrees u v h k e =
-    IsVector-add p degrees positive u.degree u.terms (negative p v.terms) h
-    (IsVector-negative p degrees u.degree v.terms (subst (λ d. IsVector p degrees (record { degree = d; terms = v.terms })) (sym e) k))
+pub IsVector-difference : (ring : Ring) → IsRing ring → (degrees : List ℤ) (u v : Vector) → IsVector ring degrees u → IsVector ring degrees v → u.degree ≡ v.degree → IsVector ring degrees (difference ring u v)
+IsVector-difference ring positive degrees u v h k e =
+    IsVector-add ring degrees positive.modulus u.degree u.terms (negative ring.modulus v.terms) h
+    (IsVector-negative ring degrees u.degree v.terms (subst (λ d. IsVector ring degrees (record { degree = d; terms = v.terms })) (sym e) k))
 
-module _ (m : Matrix) (positive : 0 < m.modulus) where
-  row_combination-difference : (c d : List (Term Place)) → IsCanonical place_cmp m.modulus d
-      → row_combination m.modulus m.rows (add place_cmp m.modulus c (negative m.modulus d))
-      ≡ add place_cmp m.modulus (row_combination m.modulus m.rows c) (negative m.modulus (row_combination m.modulus m.rows d))
+module _ (m : Matrix) (positive : IsRing m.ring) where
+  row_combination-difference : (c d : List (Term Place)) → IsCanonical (place_cmp m.ring.weights) m.ring.modulus d
+      → row_combination m.ring m.rows (add (place_cmp m.ring.weights) m.ring.modulus c (negative m.ring.modulus d))
+      ≡ add (place_cmp m.ring.weights) m.ring.modulus (row_combination m.ring m.rows c) (negative m.ring.modulus (row_combination m.ring m.rows d))
   row_combination-difference c d h =
-      row_combination-add m.modulus positive m.rows c (negative m.modulus d)
-      ∙ ap (add place_cmp m.modulus (row_combination m.modulus m.rows c)) (row_combination-negative m.modulus positive m.rows d h)
+      row_combination-add m.ring positive.modulus m.rows c (negative m.ring.modulus d)
+      ∙ ap (add (place_cmp m.ring.weights) m.ring.modulus (row_combination m.ring m.rows c)) (row_combination-negative m.ring positive.modulus m.rows d h)
 
-  pub combined-difference : (c d : Vector) → IsCanonical place_cmp m.modulus d.terms → combined m (difference m.modulus c d) ≡ difference m.modulus (combined m c) (combined m d)
+  pub combined-difference : (c d : Vector) → IsCanonical (place_cmp m.ring.weights) m.ring.modulus d.terms → combined m (difference m.ring c d) ≡ difference m.ring (combined m c) (combined m d)
   combined-difference c d h = λ i. record { degree = c.degree; terms = row_combination-difference c.terms d.terms h i }
 
-  pub span_module : IsMatrix m → IsModuleLike m.modulus m.target (InSpan m)
+  pub span_module : IsMatrix m → IsModuleLike m.ring m.target (InSpan m)
   span_module matrix = record {
-    vectors = λ v h. subst (IsVector m.modulus m.target) h.2 (IsVector-row_combination m positive matrix h.0 h.1);
+    vectors = λ v h. subst (IsVector m.ring m.target) h.2 (IsVector-row_combination m positive.modulus matrix h.0 h.1);
     differences = λ u v h k e. (
-      difference m.modulus h.0 k.0,
-      IsVector-difference m.modulus positive (row_degrees m) h.0 k.0 h.1 k.1 (ap (λ x. x.degree) h.2 ∙ e ∙ sym (ap (λ x. x.degree) k.2)),
-      combined-difference h.0 k.0 k.1.canonical ∙ (λ i. difference m.modulus (h.2 i) (k.2 i)),
+      difference m.ring h.0 k.0,
+      IsVector-difference m.ring positive (row_degrees m) h.0 k.0 h.1 k.1 (ap (λ x. x.degree) h.2 ∙ e ∙ sym (ap (λ x. x.degree) k.2)),
+      combined-difference h.0 k.0 k.1.canonical ∙ (λ i. difference m.ring (h.2 i) (k.2 i)),
     );
   }
 
   -- the relations of generators modulo a module
-  pub relation_module : (target : List ℤ) (B : Vector → Type 0) → IsModuleLike m.modulus target B → IsModuleLike m.modulus (row_degrees m) (IsRelation m B)
+  pub relation_module : (target : List ℤ) (B : Vector → Type 0) → IsModuleLike m.ring target B → IsModuleLike m.ring (row_degrees m) (IsRelation m B)
   relation_module target B h = record {
     vectors = λ c k. k.coefficients;
     differences = λ c d k l e. record {
-      coefficients = IsVector-difference m.modulus positive (row_degrees m) c d k.coefficients l.coefficients e;
+      coefficients = IsVector-difference m.ring positive (row_degrees m) c d k.coefficients l.coefficients e;
       inside = subst B (sym (combined-difference c d l.coefficients.canonical)) (h.differences (combined m c) (combined m d) k.inside l.inside e);
     };
   }
 
-  pub syzygy_module : IsModuleLike m.modulus (row_degrees m) (IsSyzygy m)
+  pub syzygy_module : IsModuleLike m.ring (row_degrees m) (IsSyzygy m)
   syzygy_module = record {
     vectors = λ c k. k.coefficients;
     differences = λ c d k l e. record {
-      coefficients = IsVector-difference m.modulus positive (row_degrees m) c d k.coefficients l.coefficients e;
+      coefficients = IsVector-difference m.ring positive (row_degrees m) c d k.coefficients l.coefficients e;
       zero = row_combination-difference c.terms d.terms l.coefficients.canonical
-          ∙ (λ i. add place_cmp m.modulus (k.zero i) (negative m.modulus (l.zero i)))
-          ∙ add-negative place_keys m.modulus positive [] (record { descending = tt; residues = tt });
+          ∙ (λ i. add (place_cmp m.ring.weights) m.ring.modulus (k.zero i) (negative m.ring.modulus (l.zero i)))
+          ∙ add-negative (place_keys m.ring.weights) m.ring.modulus positive.modulus [] (record { descending = tt; residues = tt });
     };
   }
 
-  pub graph_module : IsModuleLike m.modulus (graph_degrees m) (IsGraphVector m)
+  pub graph_module : IsModuleLike m.ring (graph_degrees m) (IsGraphVector m)
   graph_module = record {
     vectors = λ w k. k.vector;
     differences = λ u v k l e. record {
-      vector = IsVector-difference m.modulus positive (graph_degrees m) u v k.vector l.vector e;
-      value = part_terms-difference m.modulus 0 (length m.target) positive u.terms v.terms
-          ∙ (λ i. add place_cmp m.modulus (k.value i) (negative m.modulus (l.value i)))
+      vector = IsVector-difference m.ring positive (graph_degrees m) u v k.vector l.vector e;
+      value = part_terms-difference m.ring 0 (length m.target) positive u.terms v.terms
+          ∙ (λ i. add (place_cmp m.ring.weights) m.ring.modulus (k.value i) (negative m.ring.modulus (l.value i)))
           ∙ sym (row_combination-difference (coefficient_terms m u.terms) (coefficient_terms m v.terms)
-          (IsCanonical-part_terms m.modulus (length m.target) (length m.target + length m.rows) v.terms l.vector.canonical))
-          ∙ ap (row_combination m.modulus m.rows) (sym (part_terms-difference m.modulus (length m.target) (length m.target + length m.rows) positive u.terms v.terms));
+          (IsCanonical-part_terms m.ring (length m.target) (length m.target + length m.rows) v.terms l.vector.canonical))
+          ∙ ap (row_combination m.ring m.rows) (sym (part_terms-difference m.ring (length m.target) (length m.target + length m.rows) positive u.terms v.terms));
     };
   }

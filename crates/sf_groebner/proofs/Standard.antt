@@ -6,6 +6,7 @@ use Rattle.std.specs.declared.cmp.Ordering.TheVariants.{Less}
 use Rattle.std.specs.Ordering.{ordering_reverse}
 use mathlib.Core.WellFounded.{Acc}
 use Rattle.sf_algebra.specs.MatrixOperations.{row_at, row_combination}
+use Rattle.sf_algebra.specs.Rings.{Ring, Weights, IsPositive, IsRing}
 use Rattle.sf_algebra.specs.Sums.{add, total, coefficient_at}
 use Rattle.sf_algebra.specs.Terms.{Term}
 use Rattle.sf_algebra.specs.Vectors.{Place, Vector, place_cmp}
@@ -24,88 +25,88 @@ use Rattle.sf_groebner.proofs.PlaceOrder.{Less-not_Greater, not_greater_itself, 
 use Rattle.sf_groebner.proofs.TopCoefficients.{Begins, begins_at, coefficient_at-top, row_combination-at_most}
 
 -- induction over the places with positions below n
-pub place_induction : (n : ℕ) (P : Place → Type 0) → ((k : Place) → ((j : Place) → IsBelow n j k → P j) → P k) → (k : Place) → P k
-place_induction n P step k = down k (place_acc n k)
+pub place_induction : (weights : Weights) → IsPositive weights → (n : ℕ) (P : Place → Type 0) → ((k : Place) → ((j : Place) → IsBelow weights n j k → P j) → P k) → (k : Place) → P k
+place_induction weights positive n P step k = down k (place_acc weights positive n k)
   where
-    down : (k : Place) → Acc (IsBelow n) k → P k
+    down : (k : Place) → Acc (IsBelow weights n) k → P k
     down k (Acc.intro l h) = step l (λ j below. down j (h j below))
 
 -- a place of the list whose image no other's exceeds, unless the list is empty
-pub greatest : (P In : Place → Type 0) (lead : ℕ → Place) (c : List (Term Place)) → EachPlace (λ k. In k × P k) c
-    → (c ≡ []) ⊎ ((r : Place) × In r × P r × EachPlace (IsAtMost In lead (image lead r)) c)
-greatest P In lead [] h = inl refl
-greatest P In lead (t ∷ ts) h =
+pub greatest : (weights : Weights) (P In : Place → Type 0) (lead : ℕ → Place) (c : List (Term Place)) → EachPlace (λ k. In k × P k) c
+    → (c ≡ []) ⊎ ((r : Place) × In r × P r × EachPlace (IsAtMost weights In lead (image lead r)) c)
+greatest weights P In lead [] h = inl refl
+greatest weights P In lead (t ∷ ts) h =
     ⊎_elim
-    (λ (none : ts ≡ []). inr (t.at, h.0.0, h.0.1, ((h.0.0, not_greater_itself (image lead t.at)), subst (EachPlace (IsAtMost In lead (image lead t.at))) (sym none) tt)))
-    (λ (found : (r : Place) × In r × P r × EachPlace (IsAtMost In lead (image lead r)) ts).
-    ordering_cases (place_cmp (image lead t.at) (image lead found.0))
+    (λ (none : ts ≡ []). inr (t.at, h.0.0, h.0.1, ((h.0.0, not_greater_itself weights (image lead t.at)), subst (EachPlace (IsAtMost weights In lead (image lead t.at))) (sym none) tt)))
+    (λ (found : (r : Place) × In r × P r × EachPlace (IsAtMost weights In lead (image lead r)) ts).
+    ordering_cases (place_cmp weights (image lead t.at) (image lead found.0))
     (λ less. inr (found.0, found.1, found.2, ((h.0.0, Less-not_Greater _ less), found.3)))
     (λ equal. inr (found.0, found.1, found.2, ((h.0.0, λ greater. cc), found.3)))
     (λ greater.
-    let less : place_cmp (image lead found.0) (image lead t.at) ≡ Less = place_cmp_total.antisymm (image lead found.0) (image lead t.at) ∙ ap ordering_reverse greater in
+    let less : place_cmp weights (image lead found.0) (image lead t.at) ≡ Less = (place_cmp_total weights).antisymm (image lead found.0) (image lead t.at) ∙ ap ordering_reverse greater in
     inr (
       t.at,
       h.0.0,
       h.0.1,
       (
-        (h.0.0, not_greater_itself (image lead t.at)),
-        AllByRecursion-weaken _ _ (λ u k. (k.0, Less-not_Greater _ (not_greater_less (image lead u.at) (image lead found.0) (image lead t.at) k.1 less))) ts found.3,
+        (h.0.0, not_greater_itself weights (image lead t.at)),
+        AllByRecursion-weaken _ _ (λ u k. (k.0, Less-not_Greater _ (not_greater_less weights (image lead u.at) (image lead found.0) (image lead t.at) k.1 less))) ts found.3,
       ),
     )))
-    (greatest P In lead ts h.1)
+    (greatest weights P In lead ts h.1)
 
-module _ (p n : ℕ) (positive : 0 < p) (In : Place → Type 0) (rows : List Vector) (lead : ℕ → Place) (leads : HasLeads n In rows lead) (S : List (Term Place) → Type 0) (is_module : IsModule p S) where
+module _ (ring : Ring) (n : ℕ) (positive : IsRing ring) (In : Place → Type 0) (rows : List Vector) (lead : ℕ → Place) (leads : HasLeads ring.weights n In rows lead) (S : List (Term Place) → Type 0) (is_module : IsModule ring.modulus S) where
   -- a combination is in S, or begins at the image of a place
   abbrev pub IsStandard : List (Term Place) → Type 0
-  IsStandard c = S c ⊎ ((k : Place) × In k × Begins (image lead k) (row_combination p rows c))
+  IsStandard c = S c ⊎ ((k : Place) × In k × Begins (image lead k) (row_combination ring rows c))
 
-  module _ (settled : IsAllSettled p In lead S) (is_zero : (s : List (Term Place)) → S s → row_combination p rows s ≡ []) where
+  module _ (settled : IsAllSettled ring In lead S) (is_zero : (s : List (Term Place)) → S s → row_combination ring rows s ≡ []) where
     -- a member of S more changes nothing
-    standard-append : (c d s : List (Term Place)) → SameTotals p c (d ++ s) → S s → IsStandard d → IsStandard c
+    standard-append : (c d s : List (Term Place)) → SameTotals ring.modulus c (d ++ s) → S s → IsStandard d → IsStandard c
     standard-append c d s same inside h =
         ⊎_elim
-        (λ (member : S d). inl (is_module.has_same (d ++ s) c (SameTotals-sym p same) (is_module.has_sums d s member inside)))
-        (λ (found : (k : Place) × In k × Begins (image lead k) (row_combination p rows d)).
+        (λ (member : S d). inl (is_module.has_same (d ++ s) c (SameTotals-sym ring.modulus same) (is_module.has_sums d s member inside)))
+        (λ (found : (k : Place) × In k × Begins (image lead k) (row_combination ring rows d)).
         inr (found.0, found.1, subst (Begins (image lead found.0)) (sym value) found.2))
         h
       where
-        value : row_combination p rows c ≡ row_combination p rows d
+        value : row_combination ring rows c ≡ row_combination ring rows d
         value =
-            combination-SameTotals place_keys p positive (λ k. k.monomial) (λ k. row_at rows k.position) same
-            ∙ row_combination-append p positive rows d s
-            ∙ ap (add place_cmp p (row_combination p rows d)) (is_zero s inside)
-            ∙ add-nil place_cmp place_cmp_linear p positive (row_combination p rows d) (IsCanonical-row_combination p positive rows d)
+            combination-SameTotals (place_keys ring.weights) ring.modulus positive.modulus (λ k. k.monomial) (λ k. row_at rows k.position) same
+            ∙ row_combination-append ring positive.modulus rows d s
+            ∙ ap (add (place_cmp ring.weights) ring.modulus (row_combination ring rows d)) (is_zero s inside)
+            ∙ add-nil (place_cmp ring.weights) (place_cmp_linear ring.weights) ring.modulus positive.modulus (row_combination ring rows d) (IsCanonical-row_combination ring positive.modulus rows d)
 
     -- what holds of all combinations whose images are at most b
     abbrev IsStandardUpTo : Place → Type 0
-    IsStandardUpTo b = (r : Place) → In r → image lead r ≡ b → (c : List (Term Place)) → EachPlace (IsAtMost In lead b) c → IsStandard c
+    IsStandardUpTo b = (r : Place) → In r → image lead r ≡ b → (c : List (Term Place)) → EachPlace (IsAtMost ring.weights In lead b) c → IsStandard c
 
-    standard_step : (b : Place) → ((j : Place) → IsBelow n j b → IsStandardUpTo j) → IsStandardUpTo b
+    standard_step : (b : Place) → ((j : Place) → IsBelow ring.weights n j b → IsStandardUpTo j) → IsStandardUpTo b
     standard_step b before r inside e c most =
-        by_coefficient (total p (top_part lead b) c) (coefficient_at-top p n In rows lead leads b c most) (gather p In lead S is_module r b settled inside e c most)
+        by_coefficient (total ring.modulus (top_part ring.weights lead b) c) (coefficient_at-top ring n In rows lead leads b c most) (gather ring In lead S is_module r b settled inside e c most)
       where
-        by_coefficient : (y : ℕ) → coefficient_at place_cmp p b (row_combination p rows c) ≡ y → IsGathered p In lead S r b c y → IsStandard c
+        by_coefficient : (y : ℕ) → coefficient_at (place_cmp ring.weights) ring.modulus b (row_combination ring rows c) ≡ y → IsGathered ring In lead S r b c y → IsStandard c
         by_coefficient zero top gathered =
             standard-append c gathered.lower gathered.rest
-            (SameTotals-trans p gathered.same (SameTotals-append p (SameTotals-refl p gathered.lower) (SameTotals-zero p r gathered.rest)))
+            (SameTotals-trans ring.modulus gathered.same (SameTotals-append ring.modulus (SameTotals-refl ring.modulus gathered.lower) (SameTotals-zero ring.modulus r gathered.rest)))
             gathered.inside
             (⊎_elim
             (λ (none : gathered.lower ≡ []). inl (subst S (sym none) is_module.has_none))
-            (λ (found : (q : Place) × In q × (place_cmp (image lead q) b ≡ Less) × EachPlace (IsAtMost In lead (image lead q)) gathered.lower).
+            (λ (found : (q : Place) × In q × (place_cmp ring.weights (image lead q) b ≡ Less) × EachPlace (IsAtMost ring.weights In lead (image lead q)) gathered.lower).
             before (image lead found.0) (found.2, leads.column found.0 found.1) found.0 found.1 refl gathered.lower found.3)
-            (greatest (λ k. place_cmp (image lead k) b ≡ Less) In lead gathered.lower gathered.under))
+            (greatest ring.weights (λ k. place_cmp ring.weights (image lead k) b ≡ Less) In lead gathered.lower gathered.under))
         by_coefficient (suc x) top gathered =
             inr (
               r,
               inside,
-              subst (λ l. Begins l (row_combination p rows c)) (sym e)
-                  (begins_at p b (row_combination p rows c) x (IsCanonical-row_combination p positive rows c) (row_combination-at_most p n In rows lead leads b c most) top),
+              subst (λ l. Begins l (row_combination ring rows c)) (sym e)
+                  (begins_at ring b (row_combination ring rows c) x (IsCanonical-row_combination ring positive.modulus rows c) (row_combination-at_most ring n In rows lead leads b c most) top),
             )
 
     pub standard : (c : List (Term Place)) → EachPlace In c → IsStandard c
     standard c h =
         ⊎_elim
         (λ (none : c ≡ []). inl (subst S (sym none) is_module.has_none))
-        (λ (found : (r : Place) × In r × Unit {0} × EachPlace (IsAtMost In lead (image lead r)) c).
-        place_induction n IsStandardUpTo standard_step (image lead found.0) found.0 found.1 refl c found.3)
-        (greatest (λ _. Unit {0}) In lead c (AllByRecursion-weaken _ _ (λ t k. (k, tt)) c h))
+        (λ (found : (r : Place) × In r × Unit {0} × EachPlace (IsAtMost ring.weights In lead (image lead r)) c).
+        place_induction ring.weights positive.weights n IsStandardUpTo standard_step (image lead found.0) found.0 found.1 refl c found.3)
+        (greatest ring.weights (λ _. Unit {0}) In lead c (AllByRecursion-weaken _ _ (λ t k. (k, tt)) c h))

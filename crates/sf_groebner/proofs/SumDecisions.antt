@@ -5,6 +5,7 @@ use Rattle.std.specs.List.{AllByRecursion}
 use Rattle.sf_algebra.specs.Matrices.{Matrix, IsMatrix}
 use Rattle.sf_algebra.specs.MatrixOperations.{part_terms, row_combination}
 use Rattle.sf_algebra.specs.Primes.{IsPrime}
+use Rattle.sf_algebra.specs.Rings.{Ring, IsRing, IsOverField}
 use Rattle.sf_algebra.specs.Sums.{add}
 use Rattle.sf_algebra.specs.Terms.{Term}
 use Rattle.sf_algebra.specs.Vectors.{Place, Vector, place_cmp, IsVector}
@@ -20,6 +21,7 @@ use Rattle.sf_groebner.specs.Cuts.{part_of}
 use Rattle.sf_groebner.specs.MinimalGenerators.{IsInSum, matrix_of}
 use Rattle.sf_groebner.specs.Presentations.{IsZero}
 use Rattle.sf_groebner.specs.Spans.{InSpan}
+use Rattle.sf_algebra.proofs.Weights.{field_ring}
 use Rattle.sf_groebner.proofs.Decisions.{IsDecided, decide_from}
 use Rattle.sf_groebner.proofs.KeptGenerators.{IsSumAt, IsSumAt-from, IsSumAt-to}
 use Rattle.sf_groebner.proofs.MatrixBases.{span_basis}
@@ -32,15 +34,15 @@ decide_none [] = inl refl
 decide_none (t ∷ ts) = inr (λ e. cc)
 
 -- by the rest of a division
-pub decide_span : (m : Matrix) → IsPrime m.modulus → IsMatrix m → (v : Vector) → IsVector m.modulus m.target v → IsDecided (InSpan m v)
+pub decide_span : (m : Matrix) → IsOverField m.ring → IsMatrix m → (v : Vector) → IsVector m.ring m.target v → IsDecided (InSpan m v)
 decide_span m prime matrix v vector =
     let b = span_basis m prime matrix in
     let e = division_exists m prime matrix b.0 b.1 v vector in
     let rest : Vector = e.0 in
-    let both = rest_none m (omega (arith, prime.above_one)) matrix b.0 b.1 v vector rest e.1 e.2 in
+    let both = rest_none m (field_ring prime) matrix b.0 b.1 v vector rest e.1 e.2 in
     decide_from (rest.terms ≡ []) (InSpan m v) both.0 both.1 (decide_none rest.terms)
 
-module _ (p : ℕ) (positive : 0 < p) (target : List ℤ) (earlier rows : List Vector) where
+module _ (ring : Ring) (positive : IsRing ring) (target : List ℤ) (earlier rows : List Vector) where
   whole_degrees : degrees_of (earlier ++ rows) ≡ degrees_of earlier ++ degrees_of rows
   whole_degrees = map-append (λ (v : Vector). v.degree) earlier rows
 
@@ -48,68 +50,68 @@ module _ (p : ℕ) (positive : 0 < p) (target : List ℤ) (earlier rows : List V
   length-degrees_of vs = length-map vs (λ (v : Vector). v.degree)
 
   -- a sum of combinations of two lists of rows is a combination of all rows
-  pub InSpan-IsInSum : (v : Vector) → IsInSum (matrix_of p target earlier) (InSpan (matrix_of p target rows)) v → InSpan (matrix_of p target (earlier ++ rows)) v
+  pub InSpan-IsInSum : (v : Vector) → IsInSum (matrix_of ring target earlier) (InSpan (matrix_of ring target rows)) v → InSpan (matrix_of ring target (earlier ++ rows)) v
   InSpan-IsInSum v h =
-      let s = IsSumAt-from p target (InSpan (matrix_of p target rows)) earlier v h in
+      let s = IsSumAt-from ring target (InSpan (matrix_of ring target rows)) earlier v h in
       let n = length earlier in
       let c : Vector = s.inside.0 in
-      let value : row_combination p rows c.terms ≡ s.first = ap (λ (w : Vector). w.terms) s.inside.2 in
-      let last : IsVector p (degrees_of rows) (record { degree = v.degree; terms = c.terms }) =
-      subst (λ d. IsVector p (degrees_of rows) (record { degree = d; terms = c.terms })) (ap (λ (w : Vector). w.degree) s.inside.2) s.inside.1 in
-      let pair : IsVector p (degrees_of earlier ++ degrees_of rows) (record { degree = v.degree; terms = pair_terms n s.coefficients c.terms }) =
-      subst (λ k. IsVector p (degrees_of earlier ++ degrees_of rows) (record { degree = v.degree; terms = pair_terms k s.coefficients c.terms })) (length-degrees_of earlier)
-      (IsVector-pair (degrees_of earlier) (degrees_of rows) v.degree p s.coefficients c.terms s.vector last) in
+      let value : row_combination ring rows c.terms ≡ s.first = ap (λ (w : Vector). w.terms) s.inside.2 in
+      let last : IsVector ring (degrees_of rows) (record { degree = v.degree; terms = c.terms }) =
+      subst (λ d. IsVector ring (degrees_of rows) (record { degree = d; terms = c.terms })) (ap (λ (w : Vector). w.degree) s.inside.2) s.inside.1 in
+      let pair : IsVector ring (degrees_of earlier ++ degrees_of rows) (record { degree = v.degree; terms = pair_terms n s.coefficients c.terms }) =
+      subst (λ k. IsVector ring (degrees_of earlier ++ degrees_of rows) (record { degree = v.degree; terms = pair_terms k s.coefficients c.terms })) (length-degrees_of earlier)
+      (IsVector-pair (degrees_of earlier) (degrees_of rows) v.degree ring s.coefficients c.terms s.vector last) in
       let within : IsWithin n s.coefficients = subst (λ k. IsWithin k s.coefficients) (length-degrees_of earlier) (AllByRecursion-weaken _ _ (λ t k. k.0) s.coefficients s.vector.homogeneous) in
-      let terms : row_combination p (earlier ++ rows) (pair_terms n s.coefficients c.terms) ≡ v.terms =
-      row_combination-stacked p positive earlier rows s.coefficients c.terms within
-      ∙ add_comm place_cmp place_cmp_linear p positive (row_combination p earlier s.coefficients) (row_combination p rows c.terms)
-      ∙ ap (λ ts. add place_cmp p ts (row_combination p earlier s.coefficients)) value
+      let terms : row_combination ring (earlier ++ rows) (pair_terms n s.coefficients c.terms) ≡ v.terms =
+      row_combination-stacked ring positive.modulus earlier rows s.coefficients c.terms within
+      ∙ add_comm (place_cmp ring.weights) (place_cmp_linear ring.weights) ring.modulus positive.modulus (row_combination ring earlier s.coefficients) (row_combination ring rows c.terms)
+      ∙ ap (λ ts. add (place_cmp ring.weights) ring.modulus ts (row_combination ring earlier s.coefficients)) value
       ∙ s.sum in (
         record { degree = v.degree; terms = pair_terms n s.coefficients c.terms },
-        subst (λ ds. IsVector p ds (record { degree = v.degree; terms = pair_terms n s.coefficients c.terms })) (sym whole_degrees) pair,
+        subst (λ ds. IsVector ring ds (record { degree = v.degree; terms = pair_terms n s.coefficients c.terms })) (sym whole_degrees) pair,
         λ i. record { degree = v.degree; terms = terms i },
       )
 
   -- and the other way round
-  pub IsInSum-InSpan : (v : Vector) → InSpan (matrix_of p target (earlier ++ rows)) v → IsInSum (matrix_of p target earlier) (InSpan (matrix_of p target rows)) v
+  pub IsInSum-InSpan : (v : Vector) → InSpan (matrix_of ring target (earlier ++ rows)) v → IsInSum (matrix_of ring target earlier) (InSpan (matrix_of ring target rows)) v
   IsInSum-InSpan v h =
       let n = length earlier in
       let end = n + length rows in
       let c : Vector = h.0 in
-      let blocks : IsVector p (degrees_of earlier ++ degrees_of rows) c = subst (λ ds. IsVector p ds c) whole_degrees h.1 in
-      let first : IsVector p (degrees_of earlier) (part_of 0 n c) =
-      subst (λ ds. IsVector p ds (part_of 0 n c)) (slice_range-first (degrees_of earlier) (degrees_of rows) n (length-degrees_of earlier))
-      (IsVector-part_terms p (degrees_of earlier ++ degrees_of rows) 0 n c blocks) in
+      let blocks : IsVector ring (degrees_of earlier ++ degrees_of rows) c = subst (λ ds. IsVector ring ds c) whole_degrees h.1 in
+      let first : IsVector ring (degrees_of earlier) (part_of 0 n c) =
+      subst (λ ds. IsVector ring ds (part_of 0 n c)) (slice_range-first (degrees_of earlier) (degrees_of rows) n (length-degrees_of earlier))
+      (IsVector-part_terms ring (degrees_of earlier ++ degrees_of rows) 0 n c blocks) in
       let fits : n + length (degrees_of rows) ≤ end = rw length-degrees_of (omega arith) in
-      let last : IsVector p (degrees_of rows) (part_of n end c) =
-      subst (λ ds. IsVector p ds (part_of n end c)) (slice_range-second (degrees_of earlier) (degrees_of rows) n end (length-degrees_of earlier) fits)
-      (IsVector-part_terms p (degrees_of earlier ++ degrees_of rows) n end c blocks) in
+      let last : IsVector ring (degrees_of rows) (part_of n end c) =
+      subst (λ ds. IsVector ring ds (part_of n end c)) (slice_range-second (degrees_of earlier) (degrees_of rows) n end (length-degrees_of earlier) fits)
+      (IsVector-part_terms ring (degrees_of earlier ++ degrees_of rows) n end c blocks) in
       let size : length (degrees_of earlier ++ degrees_of rows) ≡ n + length rows = rw length-append (λ i. length-degrees_of earlier i + length-degrees_of rows i) in
       let within : IsWithin (n + length rows) c.terms = subst (λ k. IsWithin k c.terms) size (AllByRecursion-weaken _ _ (λ t k. k.0) c.terms blocks.homogeneous) in
       let first_within : IsWithin n (part_terms 0 n c.terms) = subst (λ k. IsWithin k (part_terms 0 n c.terms)) (length-degrees_of earlier) (AllByRecursion-weaken _ _ (λ t k. k.0) (part_terms 0 n c.terms) first.homogeneous) in
-      let sum : IsSumAt p target (InSpan (matrix_of p target rows)) earlier c.degree (row_combination p (earlier ++ rows) c.terms) = record {
-        first = row_combination p rows (part_terms n end c.terms);
+      let sum : IsSumAt ring target (InSpan (matrix_of ring target rows)) earlier c.degree (row_combination ring (earlier ++ rows) c.terms) = record {
+        first = row_combination ring rows (part_terms n end c.terms);
         coefficients = part_terms 0 n c.terms;
         inside = (part_of n end c, last, refl);
         vector = first;
         sum =
-            add_comm place_cmp place_cmp_linear p positive (row_combination p rows (part_terms n end c.terms)) (row_combination p earlier (part_terms 0 n c.terms))
-            ∙ sym (row_combination-stacked p positive earlier rows (part_terms 0 n c.terms) (part_terms n end c.terms) first_within)
-            ∙ ap (row_combination p (earlier ++ rows)) (pair_terms-parts n (length rows) c.terms blocks.canonical.descending within);
+            add_comm (place_cmp ring.weights) (place_cmp_linear ring.weights) ring.modulus positive.modulus (row_combination ring rows (part_terms n end c.terms)) (row_combination ring earlier (part_terms 0 n c.terms))
+            ∙ sym (row_combination-stacked ring positive.modulus earlier rows (part_terms 0 n c.terms) (part_terms n end c.terms) first_within)
+            ∙ ap (row_combination ring (earlier ++ rows)) (pair_terms-parts ring.weights n (length rows) c.terms blocks.canonical.descending within);
       } in
-      IsSumAt-to p target (InSpan (matrix_of p target rows)) earlier v (subst (λ (w : Vector). IsSumAt p target (InSpan (matrix_of p target rows)) earlier w.degree w.terms) h.2 sum)
+      IsSumAt-to ring target (InSpan (matrix_of ring target rows)) earlier v (subst (λ (w : Vector). IsSumAt ring target (InSpan (matrix_of ring target rows)) earlier w.degree w.terms) h.2 sum)
 
-module _ (p : ℕ) (prime : IsPrime p) (target : List ℤ) (earlier : List Vector) (matrix : AllByRecursion (IsVector p target) earlier) (v : Vector) (vector : IsVector p target v) where
-  pub decide_sum_zero : IsDecided (IsInSum (matrix_of p target earlier) IsZero v)
+module _ (ring : Ring) (prime : IsOverField ring) (target : List ℤ) (earlier : List Vector) (matrix : AllByRecursion (IsVector ring target) earlier) (v : Vector) (vector : IsVector ring target v) where
+  pub decide_sum_zero : IsDecided (IsInSum (matrix_of ring target earlier) IsZero v)
   decide_sum_zero =
-      let positive : 0 < p = omega (arith, prime.above_one) in
-      decide_from (InSpan (matrix_of p target earlier) v) (IsInSum (matrix_of p target earlier) IsZero v)
-      (IsInSum-span (matrix_of p target earlier) positive v) (InSpan-sum (matrix_of p target earlier) positive v)
-      (decide_span (matrix_of p target earlier) prime matrix v vector)
+      let positive : IsRing ring = field_ring prime in
+      decide_from (InSpan (matrix_of ring target earlier) v) (IsInSum (matrix_of ring target earlier) IsZero v)
+      (IsInSum-span (matrix_of ring target earlier) positive v) (InSpan-sum (matrix_of ring target earlier) positive v)
+      (decide_span (matrix_of ring target earlier) prime matrix v vector)
 
-  pub decide_sum_span : (rows : List Vector) → AllByRecursion (IsVector p target) rows → IsDecided (IsInSum (matrix_of p target earlier) (InSpan (matrix_of p target rows)) v)
+  pub decide_sum_span : (rows : List Vector) → AllByRecursion (IsVector ring target) rows → IsDecided (IsInSum (matrix_of ring target earlier) (InSpan (matrix_of ring target rows)) v)
   decide_sum_span rows other =
-      let positive : 0 < p = omega (arith, prime.above_one) in
-      decide_from (InSpan (matrix_of p target (earlier ++ rows)) v) (IsInSum (matrix_of p target earlier) (InSpan (matrix_of p target rows)) v)
-      (IsInSum-InSpan p positive target earlier rows v) (InSpan-IsInSum p positive target earlier rows v)
-      (decide_span (matrix_of p target (earlier ++ rows)) prime (AllByRecursion-append (IsVector p target) earlier rows matrix other) v vector)
+      let positive : IsRing ring = field_ring prime in
+      decide_from (InSpan (matrix_of ring target (earlier ++ rows)) v) (IsInSum (matrix_of ring target earlier) (InSpan (matrix_of ring target rows)) v)
+      (IsInSum-InSpan ring positive target earlier rows v) (InSpan-IsInSum ring positive target earlier rows v)
+      (decide_span (matrix_of ring target (earlier ++ rows)) prime (AllByRecursion-append (IsVector ring target) earlier rows matrix other) v vector)

@@ -4,6 +4,7 @@ use Rattle.std.specs.List.{AllByRecursion}
 use Rattle.sf_algebra.specs.MatrixOperations.{row_combination}
 use Rattle.sf_algebra.specs.Multiples.{negative}
 use Rattle.sf_algebra.specs.Primes.{IsPrime}
+use Rattle.sf_algebra.specs.Rings.{Ring, IsRing, IsOverField}
 use Rattle.sf_algebra.specs.Sums.{add}
 use Rattle.sf_algebra.specs.Terms.{Term, IsCanonical}
 use Rattle.sf_algebra.specs.Vectors.{Place, Vector, place_cmp, IsVector}
@@ -13,6 +14,7 @@ use Rattle.sf_algebra.proofs.Rows.{IsCanonical-row_combination}
 use Rattle.sf_groebner.specs.Criterion.{lead_place}
 use Rattle.sf_groebner.specs.Leads.{place_divides}
 use Rattle.sf_groebner.specs.ReducedBases.{AreApart, IsApart, IsMonic, IsReducedBy, is_divided, lead_divides}
+use Rattle.sf_algebra.proofs.Weights.{field_ring}
 use Rattle.sf_groebner.proofs.Antichains.{AreIncomparable, IsAntichain}
 use Rattle.sf_groebner.proofs.Completions.{IsMonicIn, monic_vectors}
 use Rattle.sf_groebner.proofs.Divisions.{IsVector-tail, divide}
@@ -97,26 +99,26 @@ pub record ReducedRows (N : Vector → Type 0) (rows : List Vector) : Type 0 whe
   pub divides : (k : Place) → is_divided reduced k ≡ is_divided rows k
   pub apart : IsApart reduced
 
-module _ (p : ℕ) (prime : IsPrime p) (target : List ℤ) (N : Vector → Type 0) (submodule : IsSubmodule p target N)
+module _ (ring : Ring) (prime : IsOverField ring) (target : List ℤ) (N : Vector → Type 0) (submodule : IsSubmodule ring target N)
     (rows : List Vector) (monic : AllByRecursion (IsMonicIn N) rows) where
   reduced_row : (v : Vector) → N v → IsMonic v.terms → (w : Vector) × N w × IsReducedRow rows w × (lead_place w.terms ≡ lead_place v.terms)
   reduced_row v h one =
-      let positive : 0 < p = omega (arith, prime.above_one) in
+      let positive : IsRing ring = field_ring prime in
       let lead : Term Place = record { at = lead_place v.terms; coefficient = 1 } in
       let us = tail_of v.terms in
       let shape : v.terms ≡ lead ∷ us = IsMonic-shape v.terms one in
-      let vector : IsVector p target (record { degree = v.degree; terms = lead ∷ us }) = subst (λ ts. IsVector p target (record { degree = v.degree; terms = ts })) shape (submodule.module_like.vectors v h) in
-      let e = divide p prime target rows (monic_vectors p prime target N submodule rows monic) (record { degree = v.degree; terms = us }) (IsVector-tail p target v.degree lead us vector) in
-      let multiples : Vector = record { degree = v.degree; terms = row_combination p rows e.quotients } in
-      let canonical : IsCanonical place_cmp p (lead ∷ e.rest) = record {
+      let vector : IsVector ring target (record { degree = v.degree; terms = lead ∷ us }) = subst (λ ts. IsVector ring target (record { degree = v.degree; terms = ts })) shape (submodule.module_like.vectors v h) in
+      let e = divide ring prime target rows (monic_vectors ring prime target N submodule rows monic) (record { degree = v.degree; terms = us }) (IsVector-tail ring target v.degree lead us vector) in
+      let multiples : Vector = record { degree = v.degree; terms = row_combination ring rows e.quotients } in
+      let canonical : IsCanonical (place_cmp ring.weights) ring.modulus (lead ∷ e.rest) = record {
         descending = ((e.below lead.at vector.canonical.descending.0).0, e.vector.canonical.descending);
         residues = (vector.canonical.residues.0, e.vector.canonical.residues);
       } in
-      let back : add place_cmp p us (negative p multiples.terms) ≡ e.rest =
-      ap (λ ts. add place_cmp p ts (negative p multiples.terms)) (sym e.sum)
-      ∙ add-negative_front place_keys p positive e.rest multiples.terms e.vector.canonical (IsCanonical-row_combination p positive rows e.quotients) in
-      let terms : add place_cmp p v.terms (negative p multiples.terms) ≡ lead ∷ e.rest =
-      ap (λ ts. add place_cmp p ts (negative p multiples.terms)) shape ∙ add-first place_keys p positive lead us (negative p multiples.terms) e.rest canonical back in (
+      let back : add (place_cmp ring.weights) ring.modulus us (negative ring.modulus multiples.terms) ≡ e.rest =
+      ap (λ ts. add (place_cmp ring.weights) ring.modulus ts (negative ring.modulus multiples.terms)) (sym e.sum)
+      ∙ add-negative_front (place_keys ring.weights) ring.modulus positive.modulus e.rest multiples.terms e.vector.canonical (IsCanonical-row_combination ring positive.modulus rows e.quotients) in
+      let terms : add (place_cmp ring.weights) ring.modulus v.terms (negative ring.modulus multiples.terms) ≡ lead ∷ e.rest =
+      ap (λ ts. add (place_cmp ring.weights) ring.modulus ts (negative ring.modulus multiples.terms)) shape ∙ add-first (place_keys ring.weights) ring.modulus positive.modulus lead us (negative ring.modulus multiples.terms) e.rest canonical back in (
         record { degree = v.degree; terms = lead ∷ e.rest },
         subst N (λ i. record { degree = v.degree; terms = terms i })
             (submodule.module_like.differences v multiples h (submodule.combinations rows (AllByRecursion-weaken _ _ (λ w k. k.0) rows monic) v.degree e.quotients e.homogeneous) refl),

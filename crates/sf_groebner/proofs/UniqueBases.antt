@@ -2,6 +2,7 @@
 use Rattle.std.proofs.Common.{◌≡◌, Bool, true, false, ℕ, ◌<◌, List, [], ◌∷◌, refl, sym, ◌∙◌, ap, subst, ℤ}
 use Rattle.std.specs.List.{AllByRecursion}
 use Rattle.sf_algebra.specs.Multiples.{negative}
+use Rattle.sf_algebra.specs.Rings.{Ring, IsRing}
 use Rattle.sf_algebra.specs.Sums.{add}
 use Rattle.sf_algebra.specs.Terms.{Term, IsCanonical}
 use Rattle.sf_algebra.specs.Vectors.{Place, Vector, place_cmp, term_degree}
@@ -20,18 +21,18 @@ use Rattle.sf_groebner.proofs.PlaceDivisors.{Decides-place_divides, PlaceDivides
 use Rattle.sf_groebner.proofs.Sorted.{same_sorted}
 
 -- an item of a basis with its lead
-pub record Element (p : ℕ) (degrees : List ℤ) (N : Vector → Type 0) (basis : List Vector) (v : Vector) : Type 0 where
+pub record Element (ring : Ring) (degrees : List ℤ) (N : Vector → Type 0) (basis : List Vector) (v : Vector) : Type 0 where
   pub item : IsItem v basis
   pub inside : N v
   pub lead : Term Place
   pub tail : List (Term Place)
   pub terms : v.terms ≡ lead ∷ tail
   pub one : lead.coefficient ≡ 1
-  pub canonical : IsCanonical place_cmp p (lead ∷ tail)
-  pub degree : v.degree ≡ term_degree degrees lead
+  pub canonical : IsCanonical (place_cmp ring.weights) ring.modulus (lead ∷ tail)
+  pub degree : v.degree ≡ term_degree ring.weights degrees lead
 
-module _ (p : ℕ) (positive : 0 < p) (degrees : List ℤ) (N : Vector → Type 0) (module_like : IsModuleLike p degrees N) where
-  pub element : (basis : List Vector) → IsReducedBasis N basis → (v : Vector) → IsItem v basis → Element p degrees N basis v
+module _ (ring : Ring) (positive : IsRing ring) (degrees : List ℤ) (N : Vector → Type 0) (module_like : IsModuleLike ring degrees N) where
+  pub element : (basis : List Vector) → IsReducedBasis ring.weights N basis → (v : Vector) → IsItem v basis → Element ring degrees N basis v
   element basis h v item =
       let inside = AllByRecursion-item N basis v h.inside item in
       let lead = IsMonic-lead v.terms (AllByRecursion-item _ basis v h.monic item) in
@@ -43,19 +44,19 @@ module _ (p : ℕ) (positive : 0 < p) (degrees : List ℤ) (N : Vector → Type 
         tail = lead.1;
         terms = lead.2;
         one = lead.3;
-        canonical = subst (IsCanonical place_cmp p) lead.2 vector.canonical;
+        canonical = subst (IsCanonical (place_cmp ring.weights) ring.modulus) lead.2 vector.canonical;
         degree = (subst (AllByRecursion _) lead.2 vector.homogeneous).0.1;
       }
 
   -- no lead of the basis divides a term behind the lead of an element
-  pub tail-reduced : (basis : List Vector) → IsReducedBasis N basis → (v : Vector) → (e : Element p degrees N basis v) → IsReducedBy basis e.tail
+  pub tail-reduced : (basis : List Vector) → IsReducedBasis ring.weights N basis → (v : Vector) → (e : Element ring degrees N basis v) → IsReducedBy basis e.tail
   tail-reduced basis h v e =
       IsApart-tail basis v e.lead e.tail e.terms h.apart e.item
-      (AllByRecursion-weaken _ _ (λ u free. ap (λ ts. lead_divides ts u.at) e.terms ∙ free) e.tail (lead_divides-tail e.lead e.tail e.canonical.descending))
+      (AllByRecursion-weaken _ _ (λ u free. ap (λ ts. lead_divides ts u.at) e.terms ∙ free) e.tail (lead_divides-tail ring.weights positive.weights e.lead e.tail e.canonical.descending))
 
   -- an element of the basis whose lead divides the first term of a vector of the module
-  pub divisor : (basis : List Vector) → IsReducedBasis N basis → (v : Vector) → N v → (t : Term Place) (us : List (Term Place)) → v.terms ≡ t ∷ us
-      → (w : Vector) × (e : Element p degrees N basis w) × (place_divides e.lead.at t.at ≡ true)
+  pub divisor : (basis : List Vector) → IsReducedBasis ring.weights N basis → (v : Vector) → N v → (t : Term Place) (us : List (Term Place)) → v.terms ≡ t ∷ us
+      → (w : Vector) × (e : Element ring degrees N basis w) × (place_divides e.lead.at t.at ≡ true)
   divisor basis h v inside t us terms =
       let found = list_any-item (λ (w : Vector). lead_divides w.terms t.at) basis (subst (HasDividedLead basis) terms (h.complete v inside)) in
       let e = element basis h found.0 found.1 in
@@ -63,21 +64,21 @@ module _ (p : ℕ) (positive : 0 < p) (degrees : List ℤ) (N : Vector → Type 
 
   -- vectors of the module none of whose terms behind a common lead is divided by all bases are equal
   same_tails : (u v : Vector) → N u → N v → u.degree ≡ v.degree → (t : Term Place) (us vs : List (Term Place)) → u.terms ≡ t ∷ us → v.terms ≡ t ∷ vs
-      → (first second : List Vector) → IsReducedBasis N first → IsReducedBasis N second → IsReducedBy first us → IsReducedBy second vs → us ≡ vs
+      → (first second : List Vector) → IsReducedBasis ring.weights N first → IsReducedBasis ring.weights N second → IsReducedBy first us → IsReducedBy second vs → us ≡ vs
   same_tails u v hu hv degree t us vs eu ev first second hf hs free_us free_vs =
-      let cu : IsCanonical place_cmp p (t ∷ us) = subst (IsCanonical place_cmp p) eu (module_like.vectors u hu).canonical in
-      let cv : IsCanonical place_cmp p (t ∷ vs) = subst (IsCanonical place_cmp p) ev (module_like.vectors v hv).canonical in
-      let terms : add place_cmp p u.terms (negative p v.terms) ≡ add place_cmp p us (negative p vs) =
-      (λ i. add place_cmp p (eu i) (negative p (ev i))) ∙ add-negative_first place_keys p positive t us vs cu cv in
+      let cu : IsCanonical (place_cmp ring.weights) ring.modulus (t ∷ us) = subst (IsCanonical (place_cmp ring.weights) ring.modulus) eu (module_like.vectors u hu).canonical in
+      let cv : IsCanonical (place_cmp ring.weights) ring.modulus (t ∷ vs) = subst (IsCanonical (place_cmp ring.weights) ring.modulus) ev (module_like.vectors v hv).canonical in
+      let terms : add (place_cmp ring.weights) ring.modulus u.terms (negative ring.modulus v.terms) ≡ add (place_cmp ring.weights) ring.modulus us (negative ring.modulus vs) =
+      (λ i. add (place_cmp ring.weights) ring.modulus (eu i) (negative ring.modulus (ev i))) ∙ add-negative_first (place_keys ring.weights) ring.modulus positive.modulus t us vs cu cv in
       let inside = module_like.differences u v hu hv degree in
-      let free : EachPlace NotBoth (add place_cmp p us (negative p vs)) =
-      EachPlace-add NotBoth place_cmp p us (negative p vs)
+      let free : EachPlace NotBoth (add (place_cmp ring.weights) ring.modulus us (negative ring.modulus vs)) =
+      EachPlace-add NotBoth (place_cmp ring.weights) ring.modulus us (negative ring.modulus vs)
       (AllByRecursion-weaken _ _ (λ x h a b. clash (is_divided first x.at) a h) us free_us)
-      (EachPlace-negative NotBoth p vs (AllByRecursion-weaken _ _ (λ x h a b. clash (is_divided second x.at) b h) vs free_vs)) in
-      let none = no_lead (add place_cmp p us (negative p vs)) free
-      (subst (HasDividedLead first) terms (hf.complete (difference p u v) inside))
-      (subst (HasDividedLead second) terms (hs.complete (difference p u v) inside)) in
-      add-negative_same place_keys p positive us vs (IsCanonical-tail place_cmp p t us cu) (IsCanonical-tail place_cmp p t vs cv) none
+      (EachPlace-negative NotBoth ring.modulus vs (AllByRecursion-weaken _ _ (λ x h a b. clash (is_divided second x.at) b h) vs free_vs)) in
+      let none = no_lead (add (place_cmp ring.weights) ring.modulus us (negative ring.modulus vs)) free
+      (subst (HasDividedLead first) terms (hf.complete (difference ring u v) inside))
+      (subst (HasDividedLead second) terms (hs.complete (difference ring u v) inside)) in
+      add-negative_same (place_keys ring.weights) ring.modulus positive.modulus us vs (IsCanonical-tail (place_cmp ring.weights) ring.modulus t us cu) (IsCanonical-tail (place_cmp ring.weights) ring.modulus t vs cv) none
     where
       NotBoth : Place → Type 0
       NotBoth k = is_divided first k ≡ true → is_divided second k ≡ true → ⊥
@@ -89,9 +90,9 @@ module _ (p : ℕ) (positive : 0 < p) (degrees : List ℤ) (N : Vector → Type 
       no_lead [] free a b = refl
       no_lead (t ∷ ts) free a b = absurd (free.0 a b)
 
-  module _ (first second : List Vector) (hf : IsReducedBasis N first) (hs : IsReducedBasis N second) where
+  module _ (first second : List Vector) (hf : IsReducedBasis ring.weights N first) (hs : IsReducedBasis ring.weights N second) where
     -- the two bases have one lead at an element of the first
-    same_lead : (v : Vector) (e : Element p degrees N first v) → (w : Vector) × (f : Element p degrees N second w) × (e.lead ≡ f.lead)
+    same_lead : (v : Vector) (e : Element ring degrees N first v) → (w : Vector) × (f : Element ring degrees N second w) × (e.lead ≡ f.lead)
     same_lead v e =
         let there = divisor second hs v e.inside e.lead e.tail e.terms in
         let f = there.1 in
@@ -114,11 +115,11 @@ module _ (p : ℕ) (positive : 0 < p) (degrees : List ℤ) (N : Vector → Type 
         let other = same_lead v e in
         let w = other.0 in
         let f = other.1 in
-        let degree : v.degree ≡ w.degree = e.degree ∙ ap (term_degree degrees) other.2 ∙ sym f.degree in
+        let degree : v.degree ≡ w.degree = e.degree ∙ ap (term_degree ring.weights degrees) other.2 ∙ sym f.degree in
         let terms : w.terms ≡ e.lead ∷ f.tail = f.terms ∙ ap (λ t. t ∷ f.tail) (sym other.2) in
         let tails = same_tails v w e.inside f.inside degree e.lead e.tail f.tail e.terms terms first second hf hs (tail-reduced first hf v e) (tail-reduced second hs w f) in
         let same : v ≡ w = λ i. record { degree = degree i; terms = (e.terms ∙ ap (λ us. e.lead ∷ us) tails ∙ sym terms) i } in
         subst (λ x. IsItem x second) (sym same) f.item
 
-  pub unique_reduced : (first second : List Vector) → IsReducedBasis N first → IsReducedBasis N second → first ≡ second
-  unique_reduced first second h k = same_sorted first second h.sorted k.sorted (included first second h k) (included second first k h)
+  pub unique_reduced : (first second : List Vector) → IsReducedBasis ring.weights N first → IsReducedBasis ring.weights N second → first ≡ second
+  unique_reduced first second h k = same_sorted ring.weights first second h.sorted k.sorted (included first second h k) (included second first k h)

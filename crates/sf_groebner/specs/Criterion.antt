@@ -5,9 +5,10 @@ use Rattle.std.specs.declared.cmp.Ordering.TheVariants.{Less}
 use Rattle.std.specs.List.{AllByRecursion}
 use Rattle.sf_algebra.specs.Divisibility.{quotient, lcm}
 use Rattle.sf_algebra.specs.MatrixOperations.{row_at, row_combination}
-use Rattle.sf_algebra.specs.Monomials.{one, exponent_sum}
+use Rattle.sf_algebra.specs.Monomials.{one, monomial_degree}
 use Rattle.sf_algebra.specs.Multiples.{place_product}
 use Rattle.sf_algebra.specs.Residues.{negative_mod}
+use Rattle.sf_algebra.specs.Rings.{Ring, Weights}
 use Rattle.sf_algebra.specs.Sums.{normal, add}
 use Rattle.sf_algebra.specs.Terms.{Term, IsCanonical}
 use Rattle.sf_algebra.specs.Vectors.{Place, Vector, place_cmp, generator_degree}
@@ -39,37 +40,37 @@ abbrev pub pair_terms : ℕ → (ℕ → Place) → ℕ → ℕ → List (Term P
 pair_terms p lead i j = record { at = pair_place lead i j; coefficient = 1 } ∷ (record { at = pair_place lead j i; coefficient = negative_mod p 1 } ∷ [])
 
 -- the S-vector of rows i and j
-abbrev pub s_vector : ℕ → List Vector → ℕ → ℕ → List (Term Place)
-s_vector p rows i j = row_combination p rows (pair_terms p (lead_at rows) i j)
+abbrev pub s_vector : Ring → List Vector → ℕ → ℕ → List (Term Place)
+s_vector ring rows i j = row_combination ring rows (pair_terms ring.modulus (lead_at rows) i j)
 
 -- the degree of a place: that of its generator and the sum of the exponents
-abbrev pub place_degree : List ℤ → Place → ℤ
-place_degree degrees k = generator_degree degrees k.position +ℤ pos (exponent_sum k.monomial)
+abbrev pub place_degree : Weights → List ℤ → Place → ℤ
+place_degree weights degrees k = generator_degree degrees k.position +ℤ pos (monomial_degree weights k.monomial)
 
 -- a term stands for one of the rows
 abbrev pub IsForRows : List Vector → Term Place → Type 0
 IsForRows rows t = t.at.position < length rows
 
 -- a coefficient for one of the rows, whose image is less than b
-abbrev pub HasImageBelow : List Vector → Place → Term Place → Type 0
-HasImageBelow rows b t = IsForRows rows t × (place_cmp (image (lead_at rows) t.at) b ≡ Less)
+abbrev pub HasImageBelow : Weights → List Vector → Place → Term Place → Type 0
+HasImageBelow weights rows b t = IsForRows rows t × (place_cmp weights (image (lead_at rows) t.at) b ≡ Less)
 
 -- the pair of rows i and j reduces to zero: its S-vector is a combination of rows whose images are less than the least common multiple
-pub record ReducesToZero (p : ℕ) (rows : List Vector) (i j : ℕ) : Type 0 where
+pub record ReducesToZero (ring : Ring) (rows : List Vector) (i j : ℕ) : Type 0 where
   pub steps : List (Term Place)
-  pub below : AllByRecursion (HasImageBelow rows (lcm_place (lead_at rows) i j)) steps
-  pub value : row_combination p rows steps ≡ s_vector p rows i j
+  pub below : AllByRecursion (HasImageBelow ring.weights rows (lcm_place (lead_at rows) i j)) steps
+  pub value : row_combination ring rows steps ≡ s_vector ring rows i j
 
 -- z is a syzygy of the pair of rows i and j: the coefficients of its S-vector without those of such a combination
-pub record IsPairSyzygy (p : ℕ) (rows : List Vector) (i j : ℕ) (z : List (Term Place)) : Type 0 where
+pub record IsPairSyzygy (ring : Ring) (rows : List Vector) (i j : ℕ) (z : List (Term Place)) : Type 0 where
   pub steps : List (Term Place)
-  pub below : AllByRecursion (HasImageBelow rows (lcm_place (lead_at rows) i j)) steps
-  pub sum : add place_cmp p z steps ≡ normal place_cmp p (pair_terms p (lead_at rows) i j)
-  pub zero : row_combination p rows z ≡ []
+  pub below : AllByRecursion (HasImageBelow ring.weights rows (lcm_place (lead_at rows) i j)) steps
+  pub sum : add (place_cmp ring.weights) ring.modulus z steps ≡ normal (place_cmp ring.weights) ring.modulus (pair_terms ring.modulus (lead_at rows) i j)
+  pub zero : row_combination ring rows z ≡ []
 
 -- a row without zero coefficients whose lead has the coefficient 1
-pub record IsMonicRow (p : ℕ) (v : Vector) : Type 0 where
-  pub canonical : IsCanonical place_cmp p v.terms
+pub record IsMonicRow (ring : Ring) (v : Vector) : Type 0 where
+  pub canonical : IsCanonical (place_cmp ring.weights) ring.modulus v.terms
   pub monic : IsMonic v.terms
 
 -- the leads of two rows stand at one position

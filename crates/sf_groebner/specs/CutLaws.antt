@@ -4,6 +4,7 @@ use Rattle.std.specs.Prelude.{◌≡◌, ◌↔◌, ◌<◌, ◌+◌, List, leng
 use Rattle.std.specs.List.{AllByRecursion, filter}
 use Rattle.sf_algebra.specs.Matrices.{Matrix, IsMatrix}
 use Rattle.sf_algebra.specs.MatrixOperations.{stacked}
+use Rattle.sf_algebra.specs.Rings.{IsRing}
 use Rattle.sf_algebra.specs.Vectors.{Vector}
 use Rattle.sf_groebner.specs.Cuts.{part_of, has_first_part, first_parts, last_parts, IsFirstBlock}
 use Rattle.sf_groebner.specs.Lifts.{IsLift}
@@ -14,19 +15,19 @@ use Rattle.sf_groebner.specs.Spans.{InSpan, IsSyzygy, IsGraphVector}
 -- of the reduced basis of a graph, the value parts that aren't 0 are the reduced basis of the span
 abbrev pub HasSpanOfValues : Type 0
 HasSpanOfValues =
-    (m : Matrix) → 0 < m.modulus → IsMatrix m → (basis : List Vector) → IsReducedBasis (IsGraphVector m) basis
-    → IsReducedBasis (InSpan m) (first_parts (length m.target) basis)
+    (m : Matrix) → IsRing m.ring → IsMatrix m → (basis : List Vector) → IsReducedBasis m.ring.weights (IsGraphVector m) basis
+    → IsReducedBasis m.ring.weights (InSpan m) (first_parts (length m.target) basis)
 
 -- the coefficient parts of the others are the reduced basis of the syzygies
 abbrev pub HasSyzygiesOfOthers : Type 0
 HasSyzygiesOfOthers =
-    (m : Matrix) → 0 < m.modulus → (basis : List Vector) → IsReducedBasis (IsGraphVector m) basis
-    → IsReducedBasis (IsSyzygy m) (last_parts (length m.target) (length m.target + length m.rows) basis)
+    (m : Matrix) → IsRing m.ring → (basis : List Vector) → IsReducedBasis m.ring.weights (IsGraphVector m) basis
+    → IsReducedBasis m.ring.weights (IsSyzygy m) (last_parts (length m.target) (length m.target + length m.rows) basis)
 
 -- the coefficient part of a row with a value part is the lift of that part
 abbrev pub HasLiftsOfValues : Type 0
 HasLiftsOfValues =
-    (m : Matrix) → 0 < m.modulus → (basis : List Vector) → IsReducedBasis (IsGraphVector m) basis
+    (m : Matrix) → IsRing m.ring → (basis : List Vector) → IsReducedBasis m.ring.weights (IsGraphVector m) basis
     → AllByRecursion
     (λ (w : Vector). IsLift m (part_of 0 (length m.target) w) (part_of (length m.target) (length m.target + length m.rows) w))
     (filter (has_first_part (length m.target)) basis)
@@ -34,10 +35,10 @@ HasLiftsOfValues =
 -- of the reduced basis of the syzygies of a stack, the first blocks that aren't 0 are the reduced basis of all first blocks
 abbrev pub HasBasisOfFirstBlocks : Type 0
 HasBasisOfFirstBlocks =
-    (a b : Matrix) → 0 < a.modulus → (basis : List Vector) → IsReducedBasis (IsSyzygy (stacked a b)) basis
-    → IsReducedBasis (IsFirstBlock a b) (first_parts (length a.rows) basis)
+    (a b : Matrix) → IsRing a.ring → (basis : List Vector) → IsReducedBasis a.ring.weights (IsSyzygy (stacked a b)) basis
+    → IsReducedBasis a.ring.weights (IsFirstBlock a b) (first_parts (length a.rows) basis)
 
 -- the first blocks are the relations of the first rows modulo the span of the others
 abbrev pub HasRelationsAsFirstBlocks : Type 0
 HasRelationsAsFirstBlocks =
-    (a b : Matrix) → 0 < a.modulus → a.modulus ≡ b.modulus → (v : Vector) → IsRelation a (InSpan b) v ↔ IsFirstBlock a b v
+    (a b : Matrix) → IsRing a.ring → a.ring ≡ b.ring → (v : Vector) → IsRelation a (InSpan b) v ↔ IsFirstBlock a b v

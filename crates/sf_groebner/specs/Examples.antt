@@ -3,6 +3,7 @@
 use Rattle.std.specs.Prelude.{◌≡◌, ℕ, List, [], ◌∷◌, ◌++◌, pos}
 use Rattle.sf_algebra.specs.Matrices.{Matrix, IsMatrix}
 use Rattle.sf_algebra.specs.Monomials.{from_exponents}
+use Rattle.sf_algebra.specs.Rings.{plain, ones}
 use Rattle.sf_algebra.specs.Terms.{Term}
 use Rattle.sf_algebra.specs.Vectors.{Place, Vector}
 use Rattle.sf_groebner.specs.Lifts.{IsLift}
@@ -30,7 +31,7 @@ third_row = vector 3 (term 1 0 (0 ∷ 3 ∷ []) ∷ [])
 
 -- the ideal of x^2 and x y + y^2, as the span of a column
 abbrev pub quadrics : Matrix
-quadrics = record { modulus = 101; target = pos 0 ∷ []; rows = first_row ∷ second_row ∷ [] }
+quadrics = record { ring = plain 101; target = pos 0 ∷ []; rows = first_row ∷ second_row ∷ [] }
 
 abbrev pub quadrics_basis : List Vector
 quadrics_basis = first_row ∷ second_row ∷ third_row ∷ []
@@ -64,13 +65,13 @@ abbrev pub IsQuadricsMatrix : Type 0
 IsQuadricsMatrix = IsMatrix quadrics
 
 abbrev pub HasQuadricsGraphBasis : Type 0
-HasQuadricsGraphBasis = IsReducedBasis (IsGraphVector quadrics) quadrics_graph_basis
+HasQuadricsGraphBasis = IsReducedBasis ones (IsGraphVector quadrics) quadrics_graph_basis
 
 abbrev pub HasQuadricsBasis : Type 0
-HasQuadricsBasis = IsReducedBasis (InSpan quadrics) quadrics_basis
+HasQuadricsBasis = IsReducedBasis ones (InSpan quadrics) quadrics_basis
 
 abbrev pub HasQuadricsSyzygy : Type 0
-HasQuadricsSyzygy = IsReducedBasis (IsSyzygy quadrics) (quadrics_syzygy ∷ [])
+HasQuadricsSyzygy = IsReducedBasis ones (IsSyzygy quadrics) (quadrics_syzygy ∷ [])
 
 abbrev pub HasThirdRowLift : Type 0
 HasThirdRowLift = IsLift quadrics third_row third_row_lift

@@ -5,6 +5,7 @@ use Rattle.sf_algebra.specs.Matrices.{Matrix, IsMatrix}
 use Rattle.sf_algebra.specs.MatrixOperations.{row_combination}
 use Rattle.sf_algebra.specs.Multiples.{negative}
 use Rattle.sf_algebra.specs.Primes.{IsPrime}
+use Rattle.sf_algebra.specs.Rings.{Ring, IsRing, IsOverField}
 use Rattle.sf_algebra.specs.Sums.{add}
 use Rattle.sf_algebra.specs.Vectors.{Vector, place_cmp, IsVector}
 use Rattle.sf_groebner.specs.Lifts.{IsLift}
@@ -16,15 +17,15 @@ use Rattle.sf_groebner.specs.Spans.{InSpan, IsCoefficients, IsGraphVector, IsSyz
 
 -- the graph has a reduced basis
 abbrev pub HasGraphBasis : Type 0
-HasGraphBasis = (m : Matrix) → IsPrime m.modulus → IsMatrix m → (basis : List Vector) × IsReducedBasis (IsGraphVector m) basis
+HasGraphBasis = (m : Matrix) → IsOverField m.ring → IsMatrix m → (basis : List Vector) × IsReducedBasis m.ring.weights (IsGraphVector m) basis
 
 -- the span has one
 abbrev pub HasSpanBasis : Type 0
-HasSpanBasis = (m : Matrix) → IsPrime m.modulus → IsMatrix m → (basis : List Vector) × IsReducedBasis (InSpan m) basis
+HasSpanBasis = (m : Matrix) → IsOverField m.ring → IsMatrix m → (basis : List Vector) × IsReducedBasis m.ring.weights (InSpan m) basis
 
 -- the syzygies have one
 abbrev pub HasSyzygyBasis : Type 0
-HasSyzygyBasis = (m : Matrix) → IsPrime m.modulus → IsMatrix m → (basis : List Vector) × IsReducedBasis (IsSyzygy m) basis
+HasSyzygyBasis = (m : Matrix) → IsOverField m.ring → IsMatrix m → (basis : List Vector) × IsReducedBasis m.ring.weights (IsSyzygy m) basis
 
 -- the answer for a limit: the reduced basis of the graph where m is small, and none where it is large
 abbrev pub IsAnswer : ℕ → Matrix → Option (List Vector) → Type 0
@@ -33,49 +34,49 @@ IsAnswer limit m None = IsLarge limit m
 
 -- there is an answer
 abbrev pub HasAnswer : Type 0
-HasAnswer = (limit : ℕ) (m : Matrix) → IsPrime m.modulus → IsMatrix m → (answer : Option (List Vector)) × IsAnswer limit m answer
+HasAnswer = (limit : ℕ) (m : Matrix) → IsOverField m.ring → IsMatrix m → (answer : Option (List Vector)) × IsAnswer limit m answer
 
 -- and no other one
 abbrev pub HasNoOtherAnswer : Type 0
 HasNoOtherAnswer =
-    (limit : ℕ) (m : Matrix) → 0 < m.modulus → (a b : Option (List Vector)) → IsAnswer limit m a → IsAnswer limit m b → a ≡ b
+    (limit : ℕ) (m : Matrix) → IsRing m.ring → (a b : Option (List Vector)) → IsAnswer limit m a → IsAnswer limit m b → a ≡ b
 
 -- v is the rest, no term of which a lead of the rows divides, and the combination of the rows with the quotients
-pub record IsDivision (p : ℕ) (target : List ℤ) (rows : List Vector) (v rest quotients : Vector) : Type 0 where
-  pub rest_vector : IsVector p target rest
+pub record IsDivision (ring : Ring) (target : List ℤ) (rows : List Vector) (v rest quotients : Vector) : Type 0 where
+  pub rest_vector : IsVector ring target rest
   pub rest_degree : rest.degree ≡ v.degree
-  pub coefficients : IsCoefficients (matrix_of p target rows) quotients
+  pub coefficients : IsCoefficients (matrix_of ring target rows) quotients
   pub quotients_degree : quotients.degree ≡ v.degree
   pub reduced : IsReducedBy rows rest.terms
-  pub sum : add place_cmp p rest.terms (row_combination p rows quotients.terms) ≡ v.terms
+  pub sum : add (place_cmp ring.weights) ring.modulus rest.terms (row_combination ring rows quotients.terms) ≡ v.terms
 
 -- a vector has a division by the reduced basis of a span
 abbrev pub HasDivisions : Type 0
 HasDivisions =
-    (m : Matrix) → IsPrime m.modulus → IsMatrix m → (basis : List Vector) → IsReducedBasis (InSpan m) basis → (v : Vector) → IsVector m.modulus m.target v
-    → (rest : Vector) × (quotients : Vector) × IsDivision m.modulus m.target basis v rest quotients
+    (m : Matrix) → IsOverField m.ring → IsMatrix m → (basis : List Vector) → IsReducedBasis m.ring.weights (InSpan m) basis → (v : Vector) → IsVector m.ring m.target v
+    → (rest : Vector) × (quotients : Vector) × IsDivision m.ring m.target basis v rest quotients
 
 -- two divisions of it leave one rest
 abbrev pub HasOneRest : Type 0
 HasOneRest =
-    (m : Matrix) → 0 < m.modulus → IsMatrix m → (basis : List Vector) → IsReducedBasis (InSpan m) basis
-    → (v : Vector) → IsVector m.modulus m.target v → (rest quotients other others : Vector)
-    → IsDivision m.modulus m.target basis v rest quotients → IsDivision m.modulus m.target basis v other others → rest ≡ other
+    (m : Matrix) → IsRing m.ring → IsMatrix m → (basis : List Vector) → IsReducedBasis m.ring.weights (InSpan m) basis
+    → (v : Vector) → IsVector m.ring m.target v → (rest quotients other others : Vector)
+    → IsDivision m.ring m.target basis v rest quotients → IsDivision m.ring m.target basis v other others → rest ≡ other
 
 -- the rest is none exactly where the vector is in the span
 abbrev pub HasRestInside : Type 0
 HasRestInside =
-    (m : Matrix) → 0 < m.modulus → IsMatrix m → (basis : List Vector) → IsReducedBasis (InSpan m) basis
-    → (v : Vector) → IsVector m.modulus m.target v → (rest quotients : Vector)
-    → IsDivision m.modulus m.target basis v rest quotients → rest.terms ≡ [] ↔ InSpan m v
+    (m : Matrix) → IsRing m.ring → IsMatrix m → (basis : List Vector) → IsReducedBasis m.ring.weights (InSpan m) basis
+    → (v : Vector) → IsVector m.ring m.target v → (rest quotients : Vector)
+    → IsDivision m.ring m.target basis v rest quotients → rest.terms ≡ [] ↔ InSpan m v
 
 -- a vector differs by one of the span from one that is reduced by the relations
 abbrev pub HasReducedVector : Type 0
 HasReducedVector =
-    (m : Matrix) → IsPrime m.modulus → IsMatrix m → (v : Vector) → IsVector m.modulus m.target v
-    → (w : Vector) × IsVector m.modulus m.target w × (w.degree ≡ v.degree)
-    × InSpan m (record { degree = v.degree; terms = add place_cmp m.modulus v.terms (negative m.modulus w.terms) }) × IsReducedByRelations m w
+    (m : Matrix) → IsOverField m.ring → IsMatrix m → (v : Vector) → IsVector m.ring m.target v
+    → (w : Vector) × IsVector m.ring m.target w × (w.degree ≡ v.degree)
+    × InSpan m (record { degree = v.degree; terms = add (place_cmp m.ring.weights) m.ring.modulus v.terms (negative m.ring.modulus w.terms) }) × IsReducedByRelations m w
 
 -- a vector of the span has a lift
 abbrev pub HasLifts : Type 0
-HasLifts = (m : Matrix) → IsPrime m.modulus → IsMatrix m → (v : Vector) → InSpan m v → (c : Vector) × IsLift m v c
+HasLifts = (m : Matrix) → IsOverField m.ring → IsMatrix m → (v : Vector) → InSpan m v → (c : Vector) × IsLift m v c

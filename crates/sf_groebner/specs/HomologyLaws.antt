@@ -5,6 +5,7 @@ use Rattle.sf_algebra.specs.Matrices.{Matrix, row_degrees, IsMatrix}
 use Rattle.sf_algebra.specs.MatrixOperations.{row_combination, identity, stacked}
 use Rattle.sf_algebra.specs.Monomials.{Monomial}
 use Rattle.sf_algebra.specs.Multiples.{place_product, multiple, negative}
+use Rattle.sf_algebra.specs.Rings.{Ring, IsRing}
 use Rattle.sf_algebra.specs.Sums.{add}
 use Rattle.sf_algebra.specs.Terms.{Term}
 use Rattle.sf_algebra.specs.Vectors.{Place, Vector, place_cmp}
@@ -13,30 +14,30 @@ use Rattle.sf_groebner.specs.Presentations.{IsModuleMap}
 use Rattle.sf_groebner.specs.Spans.{IsCoefficients, combined, InSpan}
 
 -- two vectors of one degree that differ by one of N
-pub record AreEqualModulo (p : ℕ) (N : Vector → Type 0) (u v : Vector) : Type 0 where
+pub record AreEqualModulo (ring : Ring) (N : Vector → Type 0) (u v : Vector) : Type 0 where
   pub degrees : u.degree ≡ v.degree
-  pub difference : N (record { degree = u.degree; terms = add place_cmp p u.terms (negative p v.terms) })
+  pub difference : N (record { degree = u.degree; terms = add (place_cmp ring.weights) ring.modulus u.terms (negative ring.modulus v.terms) })
 
 -- a map goes from a free module into the module with these relations
 pub record IsMapInto (relations map : Matrix) : Type 0 where
   pub map_matrix : IsMatrix map
   pub relations_matrix : IsMatrix relations
-  pub modulus : map.modulus ≡ relations.modulus
+  pub ring : map.ring ≡ relations.ring
   pub target : map.target ≡ relations.target
 
 -- a square that commutes modulo relations: `upper` and `lower` go from free modules into modules with relations; `left` is a map
 -- of the free modules, `right` one of the modules with relations
 pub record IsSquare (upper upper_relations lower lower_relations left right : Matrix) : Type 0 where
-  pub positive : 0 < right.modulus
+  pub positive : IsRing right.ring
   pub upper_map : IsMapInto upper_relations upper
   pub lower_map : IsMapInto lower_relations lower
   pub right_map : IsModuleMap upper_relations lower_relations right
   pub left_matrix : IsMatrix left
-  pub left_modulus : left.modulus ≡ right.modulus
+  pub left_modulus : left.ring ≡ right.ring
   pub left_source : row_degrees left ≡ row_degrees upper
   pub left_target : left.target ≡ row_degrees lower
   pub commutes : (c : Vector) → IsCoefficients upper c
-      → AreEqualModulo right.modulus (InSpan lower_relations) (combined right (combined upper c)) (combined lower (combined left c))
+      → AreEqualModulo right.ring (InSpan lower_relations) (combined right (combined upper c)) (combined lower (combined left c))
 
 -- a place of a complex: the map that arrives at the module with the relations `here`, and the map out of it into the module with
 -- the relations `beyond`
@@ -55,21 +56,21 @@ pub record AreChainMaps (a b : ComplexPlace) (first second third : Matrix) : Typ
 -- the identities are maps of each complex into itself
 abbrev pub HasIdentityChainMaps : Type 0
 HasIdentityChainMaps =
-    (p : ℕ) → 1 < p → (a : ComplexPlace) → a.here.modulus ≡ p → a.beyond.modulus ≡ p → IsMapInto a.here a.arriving → IsMapInto a.beyond a.out → row_degrees a.out ≡ a.here.target
-    → AreChainMaps a a (identity p (row_degrees a.arriving)) (identity p a.here.target) (identity p a.beyond.target)
+    (ring : Ring) → IsRing ring → 1 < ring.modulus → (a : ComplexPlace) → a.here.ring ≡ ring → a.beyond.ring ≡ ring → IsMapInto a.here a.arriving → IsMapInto a.beyond a.out → row_degrees a.out ≡ a.here.target
+    → AreChainMaps a a (identity ring (row_degrees a.arriving)) (identity ring a.here.target) (identity ring a.beyond.target)
 
 -- a matrix acts from N modulo B to M modulo A: elements go to elements, what is zero to what is zero, and so equal classes to
 -- equal classes; sums and multiples are kept
 pub record ActsOnClasses (N B M A : Vector → Type 0) (map : Matrix) : Type 0 where
   pub elements : (v : Vector) → N v → M (combined map v)
   pub zeros : (v : Vector) → B v → A (combined map v)
-  pub classes : (u v : Vector) → N u → N v → AreEqualModulo map.modulus B u v → AreEqualModulo map.modulus A (combined map u) (combined map v)
+  pub classes : (u v : Vector) → N u → N v → AreEqualModulo map.ring B u v → AreEqualModulo map.ring A (combined map u) (combined map v)
   pub sums : (us vs : List (Term Place))
-      → row_combination map.modulus map.rows (add place_cmp map.modulus us vs)
-      ≡ add place_cmp map.modulus (row_combination map.modulus map.rows us) (row_combination map.modulus map.rows vs)
+      → row_combination map.ring map.rows (add (place_cmp map.ring.weights) map.ring.modulus us vs)
+      ≡ add (place_cmp map.ring.weights) map.ring.modulus (row_combination map.ring map.rows us) (row_combination map.ring map.rows vs)
   pub multiples : (s : Term Monomial) (us : List (Term Place))
-      → row_combination map.modulus map.rows (multiple place_cmp place_product map.modulus s us)
-      ≡ multiple place_cmp place_product map.modulus s (row_combination map.modulus map.rows us)
+      → row_combination map.ring map.rows (multiple (place_cmp map.ring.weights) place_product map.ring.modulus s us)
+      ≡ multiple (place_cmp map.ring.weights) place_product map.ring.modulus s (row_combination map.ring map.rows us)
 
 -- maps of complexes act on homology: cycles go to cycles and boundaries to boundaries
 abbrev pub ActsOnHomology : Type 0
@@ -93,5 +94,5 @@ ActsOnImages =
 abbrev pub ActsOnCokernels : Type 0
 ActsOnCokernels =
     (target map other_target other_map left right : Matrix) → IsSquare map target other_map other_target left right
-    → ActsOnClasses (IsAny target.modulus target.target) (InSpan (stacked map target)) (IsAny other_target.modulus other_target.target) (InSpan (stacked other_map other_target))
+    → ActsOnClasses (IsAny target.ring target.target) (InSpan (stacked map target)) (IsAny other_target.ring other_target.target) (InSpan (stacked other_map other_target))
     right

@@ -4,6 +4,7 @@ use Rattle.sf_algebra.specs.Matrices.{Matrix, row_degrees, IsMatrix}
 use Rattle.sf_algebra.specs.MatrixOperations.{part_terms, stacked}
 use Rattle.sf_algebra.specs.Multiples.{negative}
 use Rattle.sf_algebra.specs.Primes.{IsPrime}
+use Rattle.sf_algebra.specs.Rings.{IsRing, IsOverField}
 use Rattle.sf_algebra.specs.Sums.{add}
 use Rattle.sf_algebra.specs.Vectors.{Vector, place_cmp, IsVector}
 use Rattle.sf_groebner.specs.Cuts.{part_of, IsFirstBlock}
@@ -15,33 +16,33 @@ use Rattle.sf_groebner.specs.Spans.{InSpan}
 
 -- a vector has at most one lift
 abbrev pub HasOneLift : Type 0
-HasOneLift = (m : Matrix) → 0 < m.modulus → (v c d : Vector) → IsLift m v c → IsLift m v d → c ≡ d
+HasOneLift = (m : Matrix) → IsRing m.ring → (v c d : Vector) → IsLift m v c → IsLift m v d → c ≡ d
 
 -- the first block of a lift over a stack is reduced by the first blocks of the syzygies
 abbrev pub HasReducedFirstBlocks : Type 0
 HasReducedFirstBlocks =
-    (a b : Matrix) → 0 < a.modulus → (v c : Vector) → IsLift (stacked a b) v c → (basis : List Vector) → IsReducedBasis (IsFirstBlock a b) basis
+    (a b : Matrix) → IsRing a.ring → (v c : Vector) → IsLift (stacked a b) v c → (basis : List Vector) → IsReducedBasis a.ring.weights (IsFirstBlock a b) basis
     → IsReducedBy basis (part_terms 0 (length a.rows) c.terms)
 
 -- relations that are minimal modulo 0 span all relations
 abbrev pub HasSpanningRelations : Type 0
 HasSpanningRelations =
-    (generators base relations : Matrix) → IsPrime generators.modulus → generators.modulus ≡ base.modulus → IsMatrix base
-    → relations.modulus ≡ generators.modulus → relations.target ≡ row_degrees generators
-    → AreMinimal generators.modulus (row_degrees generators) (IsRelation generators (InSpan base)) IsZero relations.rows
+    (generators base relations : Matrix) → IsOverField generators.ring → generators.ring ≡ base.ring → IsMatrix base
+    → relations.ring ≡ generators.ring → relations.target ≡ row_degrees generators
+    → AreMinimal generators.ring (row_degrees generators) (IsRelation generators (InSpan base)) IsZero relations.rows
     → (c : Vector) → IsRelation generators (InSpan base) c ↔ InSpan relations c
 
 -- the first block of a lift over generators and base, the coordinates, is reduced by such relations
 abbrev pub HasReducedCoordinates : Type 0
 HasReducedCoordinates =
-    (generators base relations : Matrix) → IsPrime generators.modulus → generators.modulus ≡ base.modulus → IsMatrix base
-    → relations.modulus ≡ generators.modulus → relations.target ≡ row_degrees generators
-    → AreMinimal generators.modulus (row_degrees generators) (IsRelation generators (InSpan base)) IsZero relations.rows
+    (generators base relations : Matrix) → IsOverField generators.ring → generators.ring ≡ base.ring → IsMatrix base
+    → relations.ring ≡ generators.ring → relations.target ≡ row_degrees generators
+    → AreMinimal generators.ring (row_degrees generators) (IsRelation generators (InSpan base)) IsZero relations.rows
     → (v c : Vector) → IsLift (stacked generators base) v c → IsReducedByRelations relations (part_of 0 (length generators.rows) c)
 
 -- vectors of one degree that are reduced by relations and differ by one of their span are equal
 abbrev pub HasOneReducedVector : Type 0
 HasOneReducedVector =
-    (m : Matrix) → 0 < m.modulus → IsMatrix m → (v w : Vector) → IsVector m.modulus m.target v → IsVector m.modulus m.target w → v.degree ≡ w.degree
-    → InSpan m (record { degree = v.degree; terms = add place_cmp m.modulus v.terms (negative m.modulus w.terms) })
+    (m : Matrix) → IsRing m.ring → IsMatrix m → (v w : Vector) → IsVector m.ring m.target v → IsVector m.ring m.target w → v.degree ≡ w.degree
+    → InSpan m (record { degree = v.degree; terms = add (place_cmp m.ring.weights) m.ring.modulus v.terms (negative m.ring.modulus w.terms) })
     → IsReducedByRelations m v → IsReducedByRelations m w → v ≡ w

@@ -1,6 +1,7 @@
 -- Minimal generators of a module N modulo a module B. (Textbook; the choice of the generators is this project's own.)
 use Rattle.std.specs.Prelude.{◌≡◌, ◌⊎◌, ℕ, List, [], ◌∷◌, ◌++◌, ℤ}
 use Rattle.sf_algebra.specs.Matrices.{Matrix}
+use Rattle.sf_algebra.specs.Rings.{Ring}
 use Rattle.sf_algebra.specs.Sums.{add}
 use Rattle.sf_algebra.specs.Vectors.{Vector, place_cmp}
 use Rattle.sf_groebner.specs.ReducedBases.{IsReducedBasis}
@@ -14,21 +15,21 @@ pub record IsInSum (m : Matrix) (B : Vector → Type 0) (v : Vector) : Type 0 wh
   pub in_span : InSpan m second
   pub first_degree : first.degree ≡ v.degree
   pub second_degree : second.degree ≡ v.degree
-  pub sum : add place_cmp m.modulus first.terms second.terms ≡ v.terms
+  pub sum : add (place_cmp m.ring.weights) m.ring.modulus first.terms second.terms ≡ v.terms
 
 -- the matrix with these rows over a free module
-abbrev pub matrix_of : ℕ → List ℤ → List Vector → Matrix
-matrix_of p target rows = record { modulus = p; target = target; rows = rows }
+abbrev pub matrix_of : Ring → List ℤ → List Vector → Matrix
+matrix_of ring target rows = record { ring = ring; target = target; rows = rows }
 
 -- kept are those of the vectors, in order, that aren't in B plus the span of the earlier vectors
-abbrev pub AreKept : ℕ → List ℤ → (Vector → Type 0) → List Vector → List Vector → List Vector → Type 0
-AreKept p target B earlier [] kept = kept ≡ []
-AreKept p target B earlier (v ∷ vs) kept =
-    (IsInSum (matrix_of p target earlier) B v × AreKept p target B (earlier ++ v ∷ []) vs kept)
-    ⊎ ((IsInSum (matrix_of p target earlier) B v → ⊥) × ((others : List Vector) × (kept ≡ v ∷ others) × AreKept p target B (earlier ++ v ∷ []) vs others))
+abbrev pub AreKept : Ring → List ℤ → (Vector → Type 0) → List Vector → List Vector → List Vector → Type 0
+AreKept ring target B earlier [] kept = kept ≡ []
+AreKept ring target B earlier (v ∷ vs) kept =
+    (IsInSum (matrix_of ring target earlier) B v × AreKept ring target B (earlier ++ v ∷ []) vs kept)
+    ⊎ ((IsInSum (matrix_of ring target earlier) B v → ⊥) × ((others : List Vector) × (kept ≡ v ∷ others) × AreKept ring target B (earlier ++ v ∷ []) vs others))
 
 -- the minimal generators of N modulo B: those of its reduced basis that aren't in B plus the span of the earlier ones
-pub record AreMinimal (p : ℕ) (target : List ℤ) (N B : Vector → Type 0) (generators : List Vector) : Type 0 where
+pub record AreMinimal (ring : Ring) (target : List ℤ) (N B : Vector → Type 0) (generators : List Vector) : Type 0 where
   pub basis : List Vector
-  pub reduced : IsReducedBasis N basis
-  pub kept : AreKept p target B [] basis generators
+  pub reduced : IsReducedBasis ring.weights N basis
+  pub kept : AreKept ring target B [] basis generators

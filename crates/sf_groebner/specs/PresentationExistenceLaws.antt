@@ -3,6 +3,7 @@
 use Rattle.std.specs.Prelude.{◌≡◌, ℕ, List, length}
 use Rattle.sf_algebra.specs.Matrices.{Matrix, row_degrees, IsMatrix}
 use Rattle.sf_algebra.specs.Primes.{IsPrime}
+use Rattle.sf_algebra.specs.Rings.{IsOverField}
 use Rattle.sf_groebner.specs.Homology.{IsHomology, IsKernel, IsImage, IsCokernel}
 use Rattle.sf_groebner.specs.Presentations.{IsModuleMap}
 use Rattle.sf_groebner.specs.Resolutions.{IsResolution}
@@ -13,9 +14,9 @@ pub record IsPlaceBetween (arriving here out beyond : Matrix) : Type 0 where
   pub here_matrix : IsMatrix here
   pub out_matrix : IsMatrix out
   pub beyond_matrix : IsMatrix beyond
-  pub arriving_modulus : arriving.modulus ≡ here.modulus
-  pub out_modulus : out.modulus ≡ here.modulus
-  pub beyond_modulus : beyond.modulus ≡ here.modulus
+  pub arriving_modulus : arriving.ring ≡ here.ring
+  pub out_modulus : out.ring ≡ here.ring
+  pub beyond_modulus : beyond.ring ≡ here.ring
   pub arriving_target : arriving.target ≡ here.target
   pub out_degrees : row_degrees out ≡ here.target
   pub out_target : out.target ≡ beyond.target
@@ -23,27 +24,27 @@ pub record IsPlaceBetween (arriving here out beyond : Matrix) : Type 0 where
 -- a place has homology
 abbrev pub HasHomology : Type 0
 HasHomology =
-    (arriving here out beyond : Matrix) → IsPrime here.modulus → IsPlaceBetween arriving here out beyond
+    (arriving here out beyond : Matrix) → IsOverField here.ring → IsPlaceBetween arriving here out beyond
     → (generators : Matrix) × (relations : Matrix) × IsHomology arriving here out beyond generators relations
 
 -- a map has a kernel
 abbrev pub HasKernel : Type 0
 HasKernel =
-    (source target map : Matrix) → IsPrime source.modulus → IsMatrix source → IsMatrix target → IsModuleMap source target map
+    (source target map : Matrix) → IsOverField source.ring → IsMatrix source → IsMatrix target → IsModuleMap source target map
     → (generators : Matrix) × (relations : Matrix) × IsKernel source target map generators relations
 
 -- an image
 abbrev pub HasImage : Type 0
 HasImage =
-    (source target map : Matrix) → IsPrime target.modulus → IsMatrix target → IsModuleMap source target map
+    (source target map : Matrix) → IsOverField target.ring → IsMatrix target → IsModuleMap source target map
     → (generators : Matrix) × (relations : Matrix) × IsImage target map generators relations
 
 -- and a cokernel
 abbrev pub HasCokernel : Type 0
 HasCokernel =
-    (source target map : Matrix) → IsPrime target.modulus → IsMatrix target → IsModuleMap source target map
+    (source target map : Matrix) → IsOverField target.ring → IsMatrix target → IsModuleMap source target map
     → (generators : Matrix) × (relations : Matrix) × IsCokernel target map generators relations
 
 -- a presented module has a resolution of each length
 abbrev pub HasResolution : Type 0
-HasResolution = (relations : Matrix) → IsPrime relations.modulus → IsMatrix relations → (n : ℕ) → (steps : List Matrix) × (length steps ≡ n) × IsResolution relations steps
+HasResolution = (relations : Matrix) → IsOverField relations.ring → IsMatrix relations → (n : ℕ) → (steps : List Matrix) × (length steps ≡ n) × IsResolution relations steps

@@ -5,6 +5,7 @@ use Rattle.std.specs.declared.cmp.Ordering.{Ordering}
 use Rattle.std.specs.declared.cmp.Ordering.TheVariants.{Less, Equal}
 use Rattle.std.specs.List.{AllByRecursion, list_any}
 use Rattle.std.specs.Ordering.{int_cmp, ordering_then}
+use Rattle.sf_algebra.specs.Rings.{Weights}
 use Rattle.sf_algebra.specs.Terms.{Term}
 use Rattle.sf_algebra.specs.Vectors.{Place, Vector, place_cmp}
 use Rattle.sf_groebner.specs.Leads.{place_divides}
@@ -42,22 +43,22 @@ IsApart [] = Unit {0}
 IsApart (v ∷ vs) = AllByRecursion (AreApart v) vs × IsApart vs
 
 -- how the leads of two lists compare, where both have one
-abbrev pub lead_cmp : List (Term Place) → List (Term Place) → Ordering
-lead_cmp [] us = Equal
-lead_cmp (t ∷ ts) [] = Equal
-lead_cmp (t ∷ ts) (u ∷ us) = place_cmp t.at u.at
+abbrev pub lead_cmp : Weights → List (Term Place) → List (Term Place) → Ordering
+lead_cmp weights [] us = Equal
+lead_cmp weights (t ∷ ts) [] = Equal
+lead_cmp weights (t ∷ ts) (u ∷ us) = place_cmp weights t.at u.at
 
 -- the order of rows: a smaller degree first; in one degree a greater lead first
-abbrev pub row_cmp : Vector → Vector → Ordering
-row_cmp v w = ordering_then (int_cmp v.degree w.degree) (lead_cmp w.terms v.terms)
+abbrev pub row_cmp : Weights → Vector → Vector → Ordering
+row_cmp weights v w = ordering_then (int_cmp v.degree w.degree) (lead_cmp weights w.terms v.terms)
 
 -- each row comes before those after it
-abbrev pub IsSorted : List Vector → Type 0
-IsSorted [] = Unit {0}
-IsSorted (v ∷ vs) = AllByRecursion (λ (w : Vector). row_cmp v w ≡ Less) vs × IsSorted vs
+abbrev pub IsSorted : Weights → List Vector → Type 0
+IsSorted weights [] = Unit {0}
+IsSorted weights (v ∷ vs) = AllByRecursion (λ (w : Vector). row_cmp weights v w ≡ Less) vs × IsSorted weights vs
 
 -- the reduced basis of a module N
-pub record IsReducedBasis (N : Vector → Type 0) (basis : List Vector) : Type 0 where
+pub record IsReducedBasis (weights : Weights) (N : Vector → Type 0) (basis : List Vector) : Type 0 where
   -- its vectors are in N
   pub inside : AllByRecursion N basis
   -- none is 0, and each lead has the coefficient 1
@@ -66,4 +67,4 @@ pub record IsReducedBasis (N : Vector → Type 0) (basis : List Vector) : Type 0
   pub complete : (v : Vector) → N v → HasDividedLead basis v.terms
   -- none of their terms is divided by the lead of another
   pub apart : IsApart basis
-  pub sorted : IsSorted basis
+  pub sorted : IsSorted weights basis

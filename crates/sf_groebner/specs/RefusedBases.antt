@@ -1,13 +1,14 @@
 -- Lists that aren't the reduced basis of the ideal of x^2 and x y + y^2, each for one reason. (The lists are this project's own.)
 use Rattle.std.specs.Prelude.{List, [], ◌∷◌}
 use Rattle.std.specs.List.{AllByRecursion}
+use Rattle.sf_algebra.specs.Rings.{ones}
 use Rattle.sf_algebra.specs.Vectors.{Vector}
 use Rattle.sf_groebner.specs.Examples.{term, vector, first_row, second_row, third_row, quadrics}
 use Rattle.sf_groebner.specs.ReducedBases.{HasDividedLead, IsApart, IsMonic, IsReducedBasis, IsSorted}
 use Rattle.sf_groebner.specs.Spans.{InSpan}
 
 abbrev pub IsRefused : List Vector → Type 0
-IsRefused vs = IsReducedBasis (InSpan quadrics) vs → ⊥
+IsRefused vs = IsReducedBasis ones (InSpan quadrics) vs → ⊥
 
 -- what else is asked of the list
 abbrev pub IsInside : List Vector → Type 0
@@ -25,7 +26,7 @@ later_lead_in_tail = vector 2 (term 1 0 (2 ∷ []) ∷ term 1 0 (1 ∷ 1 ∷ [])
 
 abbrev pub RefusesLaterLeadInTail : Type 0
 RefusesLaterLeadInTail =
-    IsRefused later_lead_in_tail × IsInside later_lead_in_tail × AreMonic later_lead_in_tail × IsComplete later_lead_in_tail × IsSorted later_lead_in_tail
+    IsRefused later_lead_in_tail × IsInside later_lead_in_tail × AreMonic later_lead_in_tail × IsComplete later_lead_in_tail × IsSorted ones later_lead_in_tail
 
 -- y^3 + x^2 z has a multiple of the lead x^2 of an earlier row
 abbrev pub earlier_lead_in_tail : List Vector
@@ -33,35 +34,35 @@ earlier_lead_in_tail = first_row ∷ second_row ∷ vector 3 (term 1 0 (0 ∷ 3 
 
 abbrev pub RefusesEarlierLeadInTail : Type 0
 RefusesEarlierLeadInTail =
-    IsRefused earlier_lead_in_tail × IsInside earlier_lead_in_tail × AreMonic earlier_lead_in_tail × IsComplete earlier_lead_in_tail × IsSorted earlier_lead_in_tail
+    IsRefused earlier_lead_in_tail × IsInside earlier_lead_in_tail × AreMonic earlier_lead_in_tail × IsComplete earlier_lead_in_tail × IsSorted ones earlier_lead_in_tail
 
 -- x y and y^2 aren't in the span
 abbrev pub outside_rows : List Vector
 outside_rows = first_row ∷ vector 2 (term 1 0 (1 ∷ 1 ∷ []) ∷ []) ∷ vector 2 (term 1 0 (0 ∷ 2 ∷ []) ∷ []) ∷ []
 
 abbrev pub RefusesOutsideRows : Type 0
-RefusesOutsideRows = IsRefused outside_rows × AreMonic outside_rows × IsComplete outside_rows × IsApart outside_rows × IsSorted outside_rows
+RefusesOutsideRows = IsRefused outside_rows × AreMonic outside_rows × IsComplete outside_rows × IsApart outside_rows × IsSorted ones outside_rows
 
 -- a coefficient 2 leads the second row
 abbrev pub doubled_row : List Vector
 doubled_row = first_row ∷ vector 2 (term 2 0 (1 ∷ 1 ∷ []) ∷ term 2 0 (0 ∷ 2 ∷ []) ∷ []) ∷ third_row ∷ []
 
 abbrev pub RefusesDoubledRow : Type 0
-RefusesDoubledRow = IsRefused doubled_row × IsInside doubled_row × IsComplete doubled_row × IsApart doubled_row × IsSorted doubled_row
+RefusesDoubledRow = IsRefused doubled_row × IsInside doubled_row × IsComplete doubled_row × IsApart doubled_row × IsSorted ones doubled_row
 
 -- a row is 0
 abbrev pub with_zero : List Vector
 with_zero = first_row ∷ second_row ∷ third_row ∷ vector 4 [] ∷ []
 
 abbrev pub RefusesZero : Type 0
-RefusesZero = IsRefused with_zero × IsInside with_zero × IsComplete with_zero × IsApart with_zero × IsSorted with_zero
+RefusesZero = IsRefused with_zero × IsInside with_zero × IsComplete with_zero × IsApart with_zero × IsSorted ones with_zero
 
 -- y^3 is wanting
 abbrev pub without_third_row : List Vector
 without_third_row = first_row ∷ second_row ∷ []
 
 abbrev pub RefusesWithoutThirdRow : Type 0
-RefusesWithoutThirdRow = IsRefused without_third_row × IsInside without_third_row × AreMonic without_third_row × IsApart without_third_row × IsSorted without_third_row
+RefusesWithoutThirdRow = IsRefused without_third_row × IsInside without_third_row × AreMonic without_third_row × IsApart without_third_row × IsSorted ones without_third_row
 
 -- in one degree the smaller lead comes first
 abbrev pub smaller_lead_first : List Vector

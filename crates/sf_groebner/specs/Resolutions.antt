@@ -8,15 +8,15 @@ use Rattle.sf_groebner.specs.Spans.{InSpan, IsSyzygy}
 
 -- the first step: the minimal generators of the span of the relations
 pub record IsFirstStep (relations step : Matrix) : Type 0 where
-  pub modulus : step.modulus ≡ relations.modulus
+  pub ring : step.ring ≡ relations.ring
   pub target : step.target ≡ relations.target
-  pub minimal : AreMinimal relations.modulus relations.target (InSpan relations) IsZero step.rows
+  pub minimal : AreMinimal relations.ring relations.target (InSpan relations) IsZero step.rows
 
 -- a further step: the minimal generators of the syzygies of the one before
 pub record IsNextStep (before step : Matrix) : Type 0 where
-  pub modulus : step.modulus ≡ before.modulus
+  pub ring : step.ring ≡ before.ring
   pub target : step.target ≡ row_degrees before
-  pub minimal : AreMinimal before.modulus (row_degrees before) (IsSyzygy before) IsZero step.rows
+  pub minimal : AreMinimal before.ring (row_degrees before) (IsSyzygy before) IsZero step.rows
 
 -- each step follows from the one before
 abbrev pub AreNextSteps : Matrix → List Matrix → Type 0

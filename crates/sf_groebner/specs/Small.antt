@@ -2,7 +2,8 @@
 use Rattle.std.specs.Prelude.{ℕ, ◌≤◌, List, [], ◌∷◌, length, ℤ, pos, neg_ℤ, ◌≤ℤ◌}
 use Rattle.std.specs.List.{AllByRecursion}
 use Rattle.sf_algebra.specs.Matrices.{Matrix, row_degrees}
-use Rattle.sf_algebra.specs.Monomials.{exponent_sum}
+use Rattle.sf_algebra.specs.Monomials.{monomial_degree}
+use Rattle.sf_algebra.specs.Rings.{Weights}
 use Rattle.sf_algebra.specs.Terms.{Term}
 use Rattle.sf_algebra.specs.Vectors.{Place, Vector}
 use Rattle.sf_groebner.specs.ReducedBases.{IsReducedBasis}
@@ -17,14 +18,14 @@ abbrev pub IsSmallDegree : ℤ → Type 0
 IsSmallDegree d = (neg_ℤ (pos 8000) ≤ℤ d) × (d ≤ℤ pos 8000)
 
 -- the lead of a list, where there is one, has at most this sum of exponents
-abbrev pub HasLeadUpTo : ℕ → List (Term Place) → Type 0
-HasLeadUpTo limit [] = Unit {0}
-HasLeadUpTo limit (t ∷ ts) = exponent_sum t.at.monomial ≤ limit
+abbrev pub HasLeadUpTo : Weights → ℕ → List (Term Place) → Type 0
+HasLeadUpTo weights limit [] = Unit {0}
+HasLeadUpTo weights limit (t ∷ ts) = monomial_degree weights t.at.monomial ≤ limit
 
 -- a basis has at most so many elements, and leads of at most this sum of exponents
-pub record IsWithinLimit (limit : ℕ) (basis : List Vector) : Type 0 where
+pub record IsWithinLimit (weights : Weights) (limit : ℕ) (basis : List Vector) : Type 0 where
   pub few : length basis ≤ GREATEST_SIZE
-  pub low : AllByRecursion (λ (v : Vector). HasLeadUpTo limit v.terms) basis
+  pub low : AllByRecursion (λ (v : Vector). HasLeadUpTo weights limit v.terms) basis
 
 -- the size and the degrees of a matrix are within bounds
 pub record HasSmallSize (m : Matrix) : Type 0 where
@@ -36,8 +37,8 @@ pub record HasSmallSize (m : Matrix) : Type 0 where
 -- m is small for a limit, by the reduced basis of its graph
 pub record IsSmall (limit : ℕ) (m : Matrix) (basis : List Vector) : Type 0 where
   pub size : HasSmallSize m
-  pub reduced : IsReducedBasis (IsGraphVector m) basis
-  pub within : IsWithinLimit limit basis
+  pub reduced : IsReducedBasis m.ring.weights (IsGraphVector m) basis
+  pub within : IsWithinLimit m.ring.weights limit basis
 
 -- m is small for no basis
 abbrev pub IsLarge : ℕ → Matrix → Type 0
@@ -45,6 +46,6 @@ IsLarge limit m = (basis : List Vector) → IsSmall limit m basis → ⊥
 
 -- a matrix whose rows are the reduced basis of their own span and within the limit
 pub record IsSmallReducedBasis (limit : ℕ) (m : Matrix) : Type 0 where
-  pub reduced : IsReducedBasis (InSpan m) m.rows
+  pub reduced : IsReducedBasis m.ring.weights (InSpan m) m.rows
   pub columns : length m.target ≤ GREATEST_SIZE
-  pub within : IsWithinLimit limit m.rows
+  pub within : IsWithinLimit m.ring.weights limit m.rows

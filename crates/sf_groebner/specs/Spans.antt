@@ -7,11 +7,11 @@ use Rattle.sf_algebra.specs.Vectors.{Place, Vector, IsVector}
 
 -- coefficients for the rows of m: a homogeneous vector over the free module of the rows' degrees
 abbrev pub IsCoefficients : Matrix → Vector → Type 0
-IsCoefficients m c = IsVector m.modulus (row_degrees m) c
+IsCoefficients m c = IsVector m.ring (row_degrees m) c
 
 -- c M as a vector, of the degree of c
 abbrev pub combined : Matrix → Vector → Vector
-combined m c = record { degree = c.degree; terms = row_combination m.modulus m.rows c.terms }
+combined m c = record { degree = c.degree; terms = row_combination m.ring m.rows c.terms }
 
 -- v is c M for some coefficients c
 abbrev pub InSpan : Matrix → Vector → Type 0
@@ -20,7 +20,7 @@ InSpan m v = (c : Vector) × IsCoefficients m c × (combined m c ≡ v)
 -- coefficients c with c M = 0
 pub record IsSyzygy (m : Matrix) (c : Vector) : Type 0 where
   pub coefficients : IsCoefficients m c
-  pub zero : row_combination m.modulus m.rows c.terms ≡ []
+  pub zero : row_combination m.ring m.rows c.terms ≡ []
 
 -- the free module of the graph: the target, then the free module of the rows' degrees
 abbrev pub graph_degrees : Matrix → List ℤ
@@ -36,5 +36,5 @@ coefficient_terms m ts = part_terms (length m.target) (length m.target + length 
 
 -- w is (c M, c) for its coefficients c
 pub record IsGraphVector (m : Matrix) (w : Vector) : Type 0 where
-  pub vector : IsVector m.modulus (graph_degrees m) w
-  pub value : value_terms m w.terms ≡ row_combination m.modulus m.rows (coefficient_terms m w.terms)
+  pub vector : IsVector m.ring (graph_degrees m) w
+  pub value : value_terms m w.terms ≡ row_combination m.ring m.rows (coefficient_terms m w.terms)

@@ -5,6 +5,7 @@ use Rattle.std.specs.List.{AllByRecursion}
 use Rattle.std.specs.List.{AllByRecursion}
 use Rattle.sf_algebra.specs.Matrices.{Matrix, row_degrees}
 use Rattle.sf_algebra.specs.MatrixOperations.{column_terms, column_rows, transposed}
+use Rattle.sf_algebra.specs.Rings.{Ring}
 use Rattle.sf_algebra.specs.Terms.{Term, IsDescending}
 use Rattle.sf_algebra.specs.Vectors.{Place, Vector, IsVector, place_cmp}
 use Rattle.sf_algebra.proofs.Columns.{IsDescending-column_terms, residues-column_terms}
@@ -57,19 +58,19 @@ pub IsTurning-end : (ds : List ℤ) (cs : List (List (Term Place))) (done : List
 IsTurning-end ds cs done left j h all = sym (append-nil done) ∙ ap (λ es. done ++ vectors_of es (drop j cs)) (sym (drop_all j ds all)) ∙ h.rows
 
 -- the parts of the transpose, as a program makes them
-pub transposed-parts : (m : Matrix) (p : ℕ) (target : List ℤ) (cs : List (List (Term Place))) (rows : List Vector) → p ≡ m.modulus → target ≡ map neg_ℤ (row_degrees m) → cs ≡ column_lists m.rows 0 m.target → rows ≡ vectors_of m.target cs
-    → record { modulus = p; target = target; rows = rows } ≡ transposed m
-transposed-parts m p target cs rows same_p same_target columns vectors =
+pub transposed-parts : (m : Matrix) (ring : Ring) (target : List ℤ) (cs : List (List (Term Place))) (rows : List Vector) → ring ≡ m.ring → target ≡ map neg_ℤ (row_degrees m) → cs ≡ column_lists m.rows 0 m.target → rows ≡ vectors_of m.target cs
+    → record { ring = ring; target = target; rows = rows } ≡ transposed m
+transposed-parts m ring target cs rows same_ring same_target columns vectors =
     let same_rows = vectors ∙ ap (vectors_of m.target) columns ∙ vectors_of-column_lists m.rows 0 m.target in
-    λ l. record { modulus = same_p l; target = same_target l; rows = same_rows l }
+    λ l. record { ring = same_ring l; target = same_target l; rows = same_rows l }
 
 -- the columns of homogeneous rows descend and have no coefficient 0
-module _ (p : ℕ) (degrees : List ℤ) (rows : List Vector) (h : AllByRecursion (IsVector p degrees) rows) where
-  pub IsDescending-column_lists : (j : ℕ) (ds : List ℤ) → AllByRecursion (IsDescending place_cmp) (column_lists rows j ds)
+module _ (ring : Ring) (degrees : List ℤ) (rows : List Vector) (h : AllByRecursion (IsVector ring degrees) rows) where
+  pub IsDescending-column_lists : (j : ℕ) (ds : List ℤ) → AllByRecursion (IsDescending (place_cmp ring.weights)) (column_lists rows j ds)
   IsDescending-column_lists j [] = tt
-  IsDescending-column_lists j (d ∷ ds) = (IsDescending-column_terms j 0 rows (AllByRecursion-weaken _ _ (λ v k. k.canonical.descending) rows h), IsDescending-column_lists (suc j) ds)
+  IsDescending-column_lists j (d ∷ ds) = (IsDescending-column_terms j ring.weights 0 rows (AllByRecursion-weaken _ _ (λ v k. k.canonical.descending) rows h), IsDescending-column_lists (suc j) ds)
 
   pub nonzero-column_lists : (j : ℕ) (ds : List ℤ) → AllByRecursion (AllByRecursion (λ (t : Term Place). 0 < t.coefficient)) (column_lists rows j ds)
   nonzero-column_lists j [] = tt
   nonzero-column_lists j (d ∷ ds) =
-      (AllByRecursion-weaken _ _ (λ t r. r.0) (column_terms j 0 rows) (residues-column_terms j p 0 rows (AllByRecursion-weaken _ _ (λ v k. k.canonical.residues) rows h)), nonzero-column_lists (suc j) ds)
+      (AllByRecursion-weaken _ _ (λ t r. r.0) (column_terms j 0 rows) (residues-column_terms j ring.modulus 0 rows (AllByRecursion-weaken _ _ (λ v k. k.canonical.residues) rows h)), nonzero-column_lists (suc j) ds)

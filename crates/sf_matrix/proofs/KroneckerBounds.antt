@@ -2,6 +2,7 @@
 use Rattle.std.proofs.Common.{ℕ, ◌*◌, ◌<◌, ◌≤◌, List, length, map, ℤ, ◌+ℤ◌, arith}
 use Rattle.std.proofs.Math.Nat.{mul-le-mul_right}
 use Rattle.std.specs.List.{AllByRecursion}
+use Rattle.sf_algebra.specs.Rings.{Ring}
 use Rattle.sf_algebra.specs.Vectors.{Vector, IsVector}
 use Rattle.sf_algebra.proofs.KroneckerVectors.{pair_below}
 use Rattle.sf_algebra.proofs.Lists.{AllByRecursion-weaken}
@@ -15,8 +16,8 @@ first_below i m n bound first size =
     omega arith
 
 -- the positions of the tensor product of two rows
-pub PositionsFit-vectors : (p : ℕ) (ds es : List ℤ) (v w : Vector) → length ds * length es < 18446744073709551616 → IsVector p ds v → IsVector p es w → PositionsFit (length es) v.terms w.terms
-PositionsFit-vectors p ds es v w size h k =
+pub PositionsFit-vectors : (ring : Ring) (ds es : List ℤ) (v w : Vector) → length ds * length es < 18446744073709551616 → IsVector ring ds v → IsVector ring es w → PositionsFit (length es) v.terms w.terms
+PositionsFit-vectors ring ds es v w size h k =
     AllByRecursion-weaken _ _
     (λ t e. (
       first_below t.at.position (length ds) (length es) _ e.0 size,

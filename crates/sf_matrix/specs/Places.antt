@@ -2,6 +2,7 @@
 use Rattle.std.specs.Prelude.{ℕ, ◌+ℤ◌}
 use Rattle.sf_algebra.specs.MatrixOperations.{kronecker_terms, part_terms}
 use Rattle.sf_algebra.specs.Monomials.{Monomial}
+use Rattle.sf_algebra.specs.Rings.{Ring}
 use Rattle.sf_algebra.specs.Terms.{Term}
 use Rattle.sf_algebra.specs.Vectors.{Place, Vector}
 
@@ -18,8 +19,8 @@ abbrev pub factor_of : Term Place → Term Monomial
 factor_of t = record { at = t.at.monomial; coefficient = t.coefficient }
 
 -- the tensor product of a vector with a vector over n columns
-abbrev pub kronecker_vector : ℕ → ℕ → Vector → Vector → Vector
-kronecker_vector p n v w = record { degree = v.degree +ℤ w.degree; terms = kronecker_terms p n v.terms w.terms }
+abbrev pub kronecker_vector : Ring → ℕ → Vector → Vector → Vector
+kronecker_vector ring n v w = record { degree = v.degree +ℤ w.degree; terms = kronecker_terms ring n v.terms w.terms }
 
 -- the terms of a vector at the positions from `from` to before `to`, counted from `from`
 abbrev pub vector_between : ℕ → ℕ → Vector → Vector

@@ -3,6 +3,7 @@ ghost use Rattle.std.specs.List.{AllByRecursion};
 ghost use Rattle.sf_algebra.specs.MatrixOperations.{row_at, row_combination};
 ghost use Rattle.sf_algebra.specs.Monomials.{GREATEST_SUM, exponent_sum};
 ghost use Rattle.sf_algebra.specs.Multiples.{place_product, term_product};
+ghost use Rattle.sf_algebra.specs.Rings.{plain, ones};
 ghost use Rattle.sf_algebra.specs.Terms.{IsCanonical, IsNonzeroResidue};
 ghost use Rattle.sf_algebra.specs.Vectors.{place_cmp};
 ghost use Rattle.sf_matrix.specs.Bounds.{HasRoom, CombinationFits};
@@ -59,8 +60,8 @@ pub(crate) fn combination(
     requires room { CombinationFits (row_at rows.now) c.now }
     requires coefficients { AllByRecursion (IsNonzeroResidue modulus) c.now }
     requires residues { AllByRecursion (λ v. AllByRecursion (IsNonzeroResidue modulus) v.terms) rows.now }
-    ensures combination { IfOk result (λ v. v.items ≡ row_combination modulus rows.now c.now) }
-    ensures canonical { IfOk result (λ v. IsCanonical place_cmp modulus v.items) }
+    ensures combination { IfOk result (λ v. v.items ≡ row_combination (plain modulus) rows.now c.now) }
+    ensures canonical { IfOk result (λ v. IsCanonical (place_cmp ones) modulus v.items) }
 {
     let mut products = Vec::new(alloc);
     for factor in c {

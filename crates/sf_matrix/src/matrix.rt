@@ -1,4 +1,5 @@
 ghost use Rattle.std.specs.Prelude.{◌≡◌, ◌<◌, [], ◌∷◌, ◌++◌, length, Some, OnOk, OnErr, slice_get};
+ghost use Rattle.sf_algebra.specs.Rings.{plain};
 ghost use Rattle.sf_algebra.specs.Vectors.{IsVector};
 ghost use Rattle.sf_algebra.specs.Matrices.{IsMatrix};
 
@@ -20,7 +21,8 @@ use std::marker::Model;
 
 /// A graded matrix: rows that are homogeneous vectors over one free module, its target.
 ///
-/// Contracts see it as the modulus, the degrees of the target's generators, and the list of the rows with their degrees.
+/// Contracts see it as the ring, in which each variable has the weight 1, the degrees of the target's generators, and
+/// the list of the rows with their degrees.
 #[derive(Debug, Drop)]
 pub struct Matrix {
     modulus: Modulus,
@@ -30,18 +32,19 @@ pub struct Matrix {
 
 impl Model for Matrix {
     ghost use Rattle.sf_algebra.specs.Matrices.{Matrix, IsMatrix};
+    ghost use Rattle.sf_algebra.specs.Rings.{plain};
 
     ghost Value = { Matrix };
 
-    ghost view = { λ m. record { modulus = m.modulus; target = m.target.degrees; rows = m.rows.items } };
+    ghost view = { λ m. record { ring = plain m.modulus; target = m.target.degrees; rows = m.rows.items } };
 
-    ghost invariant = { λ m. IsMatrix (record { modulus = m.modulus; target = m.target.degrees; rows = m.rows.items }) };
+    ghost invariant = { λ m. IsMatrix (record { ring = plain m.modulus; target = m.target.degrees; rows = m.rows.items }) };
 }
 
 impl Matrix {
     /// The matrix without rows. It allocates nothing yet.
     pub fn new(alloc: Global, modulus: Modulus, target: Free) -> Matrix
-        ensures empty { result ≡ record { modulus = modulus; target = target.degrees; rows = [] } }
+        ensures empty { result ≡ record { ring = plain modulus; target = target.degrees; rows = [] } }
     {
         Matrix {
             modulus,
@@ -52,7 +55,7 @@ impl Matrix {
 
     /// Adds a last row, a homogeneous vector over the target with residues of the modulus.
     pub fn push_row(&mut self, v: Vector) -> Result<(), OutOfMemory>
-        requires { IsVector self.old.modulus self.old.target v }
+        requires { IsVector self.old.ring self.old.target v }
         ensures ok { OnOk result (self.new ≡ record self.old { rows = self.old.rows ++ v ∷ [] }) }
         ensures err { OnErr result (self.new ≡ self.old) }
     {
@@ -87,7 +90,7 @@ impl Matrix {
 
     /// The prime that the coefficients are taken modulo.
     pub fn modulus(&self) -> Modulus
-        ensures modulus { result ≡ self.now.modulus }
+        ensures ring { self.now.ring ≡ plain result }
     {
         self.modulus
     }

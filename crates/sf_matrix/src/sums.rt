@@ -1,4 +1,5 @@
 ghost use Rattle.std.specs.Prelude.{◌≡◌, ◌↔◌, [], ◌++◌, IfOk, OnOk, OnErr, IsTrue};
+ghost use Rattle.sf_algebra.specs.Rings.{ones};
 ghost use Rattle.sf_algebra.specs.Sums.{put, normal, add};
 ghost use Rattle.sf_algebra.specs.Terms.{IsCanonical, IsNonzeroResidue, IsAboveFirst};
 ghost use Rattle.sf_algebra.specs.Vectors.{place_cmp};
@@ -12,7 +13,7 @@ impl Term {
     /// Compares where two terms stand: an earlier generator is greater, and at one generator the monomials decide.
     #[inline]
     pub fn cmp_place(&self, other: &Term) -> Ordering
-        ensures { result ≡ place_cmp self.now.at other.now.at }
+        ensures { result ≡ place_cmp ones self.now.at other.now.at }
     {
         match other.position.cmp(&self.position) {
             Ordering::Equal => self.monomial.cmp(&other.monomial),
@@ -39,10 +40,10 @@ pub fn add_terms(
     mut left: &[Term],
     mut right: &[Term],
 ) -> Result<Vec<Term>, OutOfMemory>
-    requires left { IsCanonical place_cmp modulus left.now }
-    requires right { IsCanonical place_cmp modulus right.now }
-    ensures sum { IfOk result (λ v. v.items ≡ add place_cmp modulus left.now right.now) }
-    ensures canonical { IfOk result (λ v. IsCanonical place_cmp modulus v.items) }
+    requires left { IsCanonical (place_cmp ones) modulus left.now }
+    requires right { IsCanonical (place_cmp ones) modulus right.now }
+    ensures sum { IfOk result (λ v. v.items ≡ add (place_cmp ones) modulus left.now right.now) }
+    ensures canonical { IfOk result (λ v. IsCanonical (place_cmp ones) modulus v.items) }
 {
     let mut sum = Vec::with_capacity(alloc, left.len().saturating_add(right.len()))?;
     while let ([t, ts @ ..], [u, us @ ..]) = (left, right) {
@@ -70,7 +71,7 @@ pub fn add_terms(
 
 /// Whether a list of terms is the canonical list of what it means.
 fn are_canonical(modulus: Modulus, terms: &[Term]) -> bool
-    ensures { IsTrue result ↔ IsCanonical place_cmp modulus terms.now }
+    ensures { IsTrue result ↔ IsCanonical (place_cmp ones) modulus terms.now }
 {
     let mut rest = terms;
     while let [t, others @ ..] = rest {
@@ -91,7 +92,7 @@ fn is_nonzero_residue(modulus: Modulus, term: &Term) -> bool
 
 /// Whether a term is greater than the first of the others, where there is one.
 fn is_above(term: &Term, others: &[Term]) -> bool
-    ensures { IsTrue result ↔ IsAboveFirst place_cmp term.now.at others.now }
+    ensures { IsTrue result ↔ IsAboveFirst (place_cmp ones) term.now.at others.now }
 {
     match others.first() {
         None => true,
@@ -107,8 +108,8 @@ pub fn sum_of_terms(
     modulus: Modulus,
     terms: &[Term],
 ) -> Result<Vec<Term>, OutOfMemory>
-    ensures sum { IfOk result (λ v. v.items ≡ normal place_cmp modulus terms.now) }
-    ensures canonical { IfOk result (λ v. IsCanonical place_cmp modulus v.items) }
+    ensures sum { IfOk result (λ v. v.items ≡ normal (place_cmp ones) modulus terms.now) }
+    ensures canonical { IfOk result (λ v. IsCanonical (place_cmp ones) modulus v.items) }
 {
     let p = modulus.value();
     if are_canonical(modulus, terms) {
@@ -139,8 +140,8 @@ pub(crate) fn sum_of_gathered(
     modulus: Modulus,
     terms: Vec<Term>,
 ) -> Result<Vec<Term>, OutOfMemory>
-    ensures sum { IfOk result (λ v. v.items ≡ normal place_cmp modulus terms.items) }
-    ensures canonical { IfOk result (λ v. IsCanonical place_cmp modulus v.items) }
+    ensures sum { IfOk result (λ v. v.items ≡ normal (place_cmp ones) modulus terms.items) }
+    ensures canonical { IfOk result (λ v. IsCanonical (place_cmp ones) modulus v.items) }
 {
     modulus.facts();
     if are_canonical(modulus, &terms) {
@@ -158,8 +159,8 @@ impl Vector {
         degree: i32,
         terms: &[Term],
     ) -> Result<Vector, OutOfMemory>
-        ensures ok { IfOk result (λ v. v ≡ record { degree = degree; terms = normal place_cmp modulus terms.now }) }
-        ensures canonical { IfOk result (λ v. IsCanonical place_cmp modulus v.terms) }
+        ensures ok { IfOk result (λ v. v ≡ record { degree = degree; terms = normal (place_cmp ones) modulus terms.now }) }
+        ensures canonical { IfOk result (λ v. IsCanonical (place_cmp ones) modulus v.terms) }
     {
         let terms = sum_of_terms(alloc, modulus, terms)?;
         Ok(Vector { degree, terms })

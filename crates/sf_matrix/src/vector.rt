@@ -1,6 +1,7 @@
 ghost use Rattle.std.specs.Prelude.{◌≡◌, ◌<◌, ◌↔◌, [], ◌∷◌, ◌++◌, length, Some, OnOk, OnErr, IsTrue, slice_get};
 ghost use Rattle.std.specs.declared.cmp.Ordering.TheVariants.{Less};
 ghost use Rattle.std.specs.List.{AllByRecursion};
+ghost use Rattle.sf_algebra.specs.Rings.{ones};
 ghost use Rattle.sf_algebra.specs.Terms.{IsDescending};
 ghost use Rattle.sf_algebra.specs.Vectors.{place_cmp};
 ghost use Rattle.sf_matrix.specs.Places.{place_of, term_of};
@@ -46,6 +47,7 @@ pub struct Vector {
 impl Model for Vector {
     ghost use Rattle.std.specs.Prelude.{◌<◌};
     ghost use Rattle.std.specs.List.{AllByRecursion};
+    ghost use Rattle.sf_algebra.specs.Rings.{ones};
     ghost use Rattle.sf_algebra.specs.Terms.{IsDescending};
     ghost use Rattle.sf_algebra.specs.Vectors.{Vector, place_cmp};
 
@@ -53,7 +55,7 @@ impl Model for Vector {
 
     ghost view = { λ v. record { degree = v.degree; terms = v.terms.items } };
 
-    ghost invariant = { λ v. IsDescending place_cmp v.terms.items × AllByRecursion (λ t. 0 < t.coefficient) v.terms.items };
+    ghost invariant = { λ v. IsDescending (place_cmp ones) v.terms.items × AllByRecursion (λ t. 0 < t.coefficient) v.terms.items };
 }
 
 impl Vector {
@@ -69,7 +71,7 @@ impl Vector {
 
     /// The vector of this degree with these terms, the greatest first and none with the coefficient 0.
     pub fn from_canonical(degree: i32, terms: Vec<Term>) -> Vector
-        requires descending { IsDescending place_cmp terms.items }
+        requires descending { IsDescending (place_cmp ones) terms.items }
         requires nonzero { AllByRecursion (λ t. 0 < t.coefficient) terms.items }
         ensures vector { result ≡ record { degree = degree; terms = terms.items } }
     {
@@ -79,7 +81,7 @@ impl Vector {
     /// Adds a last term: the coefficient `c` at the generator `position` and the monomial `a`.
     pub fn push(&mut self, position: u64, a: Mono, c: u32) -> Result<(), OutOfMemory>
         requires nonzero { 0 < c }
-        requires last { AllByRecursion (λ t. place_cmp (place_of position a) t.at ≡ Less) self.old.terms }
+        requires last { AllByRecursion (λ t. place_cmp ones (place_of position a) t.at ≡ Less) self.old.terms }
         ensures ok { OnOk result (self.new ≡ record self.old { terms = self.old.terms ++ term_of position a c ∷ [] }) }
         ensures err { OnErr result (self.new ≡ self.old) }
     {
@@ -102,7 +104,7 @@ impl Vector {
     /// The number of terms.
     pub fn len(&self) -> usize
         ensures len { result ≡ length self.now.terms }
-        ensures descending { IsDescending place_cmp self.now.terms }
+        ensures descending { IsDescending (place_cmp ones) self.now.terms }
         ensures nonzero { AllByRecursion (λ t. 0 < t.coefficient) self.now.terms }
     {
         self.terms.len()
@@ -119,7 +121,7 @@ impl Vector {
     pub fn term(&self, k: usize) -> (u64, Mono, u32)
         requires { k < length self.now.terms }
         ensures term { slice_get self.now.terms k ≡ Some (term_of result.0 result.1 result.2) }
-        ensures descending { IsDescending place_cmp self.now.terms }
+        ensures descending { IsDescending (place_cmp ones) self.now.terms }
         ensures nonzero { AllByRecursion (λ t. 0 < t.coefficient) self.now.terms }
     {
         let term = &self.terms[k];

@@ -2,7 +2,8 @@ ghost use Rattle.std.specs.Prelude.{◌≡◌, ◌+◌, ◌<◌, ◌≤◌, ◌�
 ghost use Rattle.std.specs.Cmp.{partial_order_from_agreeing_total};
 ghost use Rattle.std.specs.Ordering.{as_partial_cmp};
 ghost use Rattle.sf_algebra.specs.Divisibility.{Divides, quotient, lcm};
-ghost use Rattle.sf_algebra.specs.Monomials.{VARIABLES, one, product, exponents, from_exponents, exponent_sum, monomial_cmp};
+ghost use Rattle.sf_algebra.specs.Monomials.{VARIABLES, one, product, exponents, from_exponents, exponent_sum, monomial_degree, monomial_cmp};
+ghost use Rattle.sf_algebra.specs.Rings.{ones};
 ghost use Rattle.sf_algebra.proofs.MonomialEquality.{same_exponents-monomial_cmp};
 ghost use Rattle.sf_algebra.proofs.Orders.{monomial_cmp_total};
 
@@ -100,6 +101,13 @@ impl Mono {
             + self.e6 as u32
     }
 
+    /// The degree in a ring whose variables have the weight 1: the sum of the exponents.
+    fn degree(self) -> u32
+        ensures { result ≡ monomial_degree ones self }
+    {
+        self.sum()
+    }
+
     /// The product, whose exponents are the sums of the factors' exponents.
     ///
     /// It fits where the sums of the factors' exponents add to at most 65,535.
@@ -163,18 +171,18 @@ impl Mono {
 }
 
 impl Ord for Mono {
-    ghost cmp = { monomial_cmp };
+    ghost cmp = { monomial_cmp ones };
 
-    ghost total = { monomial_cmp_total };
+    ghost total = { monomial_cmp_total ones };
 
     ghost matches_partial_cmp = { λ a b. refl };
 
-    ghost matches_eq = { same_exponents-monomial_cmp };
+    ghost matches_eq = { same_exponents-monomial_cmp ones };
 
     #[tactic(auto, using(sf_algebra::proofs::Comparisons::ordering_then_assoc))]
     fn cmp(&self, other: &Mono) -> Ordering {
-        self.sum()
-            .cmp(&other.sum())
+        self.degree()
+            .cmp(&other.degree())
             .then(other.e6.cmp(&self.e6))
             .then(other.e5.cmp(&self.e5))
             .then(other.e4.cmp(&self.e4))
@@ -185,9 +193,9 @@ impl Ord for Mono {
 }
 
 impl PartialOrd for Mono {
-    ghost partial_cmp = { as_partial_cmp monomial_cmp };
+    ghost partial_cmp = { as_partial_cmp (monomial_cmp ones) };
 
-    ghost laws = { partial_order_from_agreeing_total monomial_cmp monomial_cmp_total (λ a b. refl) same_exponents-monomial_cmp };
+    ghost laws = { partial_order_from_agreeing_total (monomial_cmp ones) (monomial_cmp_total ones) (λ a b. refl) (same_exponents-monomial_cmp ones) };
 
     fn partial_cmp(&self, other: &Mono) -> Option<Ordering> {
         Some(self.cmp(other))

@@ -6,6 +6,7 @@ use Rattle.sf_algebra.specs.Monomials.{Monomial, product, monomial_cmp}
 use Rattle.sf_algebra.specs.Multiples.{term_product, multiple}
 use Rattle.sf_algebra.specs.Polynomials.{polynomial_product}
 use Rattle.sf_algebra.specs.Primes.{IsPrime}
+use Rattle.sf_algebra.specs.Rings.{plain, ones}
 use Rattle.sf_algebra.specs.Sums.{add}
 use Rattle.sf_algebra.specs.Terms.{Term, IsCanonical, IsNonzeroResidue}
 use Rattle.sf_algebra.proofs.Keys.{monomial_keys}
@@ -18,19 +19,19 @@ positive_from_residues p [] some h = absurd (omega arith)
 positive_from_residues p (u ∷ us) some h = omega (arith, h.0.1)
 
 -- the halves
-pub polynomial_product-halves : (p : ℕ) → 0 < p → (v : List (Term Monomial)) (k : ℕ) (us : List (Term Monomial)) → polynomial_product p us v ≡ add monomial_cmp p (polynomial_product p (take k us) v) (polynomial_product p (drop k us) v)
+pub polynomial_product-halves : (p : ℕ) → 0 < p → (v : List (Term Monomial)) (k : ℕ) (us : List (Term Monomial)) → polynomial_product (plain p) us v ≡ add (monomial_cmp ones) p (polynomial_product (plain p) (take k us) v) (polynomial_product (plain p) (drop k us) v)
 polynomial_product-halves p positive v k us =
-    ap (λ l. polynomial_product p l v) (sym (take-append-drop k us))
-    ∙ polynomial_product-append p positive (take k us) (drop k us) v
+    ap (λ l. polynomial_product (plain p) l v) (sym (take-append-drop k us))
+    ∙ polynomial_product-append (plain p) positive (take k us) (drop k us) v
 
 -- the products of a term with each of the terms, once a loop has been through all
-module _ (p : ℕ) (t : Term Monomial) (prime : IsPrime p) (nonzero : IsNonzeroResidue p t) (us : List (Term Monomial)) (canonical : IsCanonical monomial_cmp p us) where
+module _ (p : ℕ) (t : Term Monomial) (prime : IsPrime p) (nonzero : IsNonzeroResidue p t) (us : List (Term Monomial)) (canonical : IsCanonical (monomial_cmp ones) p us) where
   module _ (i : ℕ) (products : List (Term Monomial)) (all : length us ≤ i) (taken : products ≡ map (term_product product p t) (take i us)) where
     whole : products ≡ map (term_product product p t) us
     whole = taken ∙ ap (map (term_product product p t)) (take_all i us all)
 
-    pub multiple-taken : products ≡ multiple monomial_cmp product p t us
-    multiple-taken = whole ∙ sym (multiple-map monomial_keys p t prime nonzero us canonical)
+    pub multiple-taken : products ≡ multiple (monomial_cmp ones) product p t us
+    multiple-taken = whole ∙ sym (multiple-map (monomial_keys ones) p t prime nonzero us canonical)
 
-    pub IsCanonical-taken : IsCanonical monomial_cmp p products
-    IsCanonical-taken = subst (IsCanonical monomial_cmp p) (sym whole) (IsCanonical-map_term_product monomial_keys p t prime nonzero us canonical)
+    pub IsCanonical-taken : IsCanonical (monomial_cmp ones) p products
+    IsCanonical-taken = subst (IsCanonical (monomial_cmp ones) p) (sym whole) (IsCanonical-map_term_product (monomial_keys ones) p t prime nonzero us canonical)

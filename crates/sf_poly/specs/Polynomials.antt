@@ -1,17 +1,18 @@
--- Polynomials over the residues modulo a number, and their greatest terms. (Cox, Little, O'Shea, "Ideals, Varieties, and
+-- Polynomials of a ring, and their greatest terms. (Cox, Little, O'Shea, "Ideals, Varieties, and
 -- Algorithms", chapter 2, section 2.)
 use Rattle.std.specs.Prelude.{ℕ, List, [], ◌∷◌, Option, Some, None}
 use Rattle.sf_algebra.specs.Monomials.{Monomial, monomial_cmp, exponent_sum}
+use Rattle.sf_algebra.specs.Rings.{Ring}
 use Rattle.sf_algebra.specs.Terms.{Term, IsCanonical}
 
--- the modulus and the terms
+-- the ring and the terms
 pub record Polynomial : Type 0 where
-  pub modulus : ℕ
+  pub ring : Ring
   pub terms : List (Term Monomial)
 
 -- the terms are canonical
 abbrev pub IsPolynomial : Polynomial → Type 0
-IsPolynomial f = IsCanonical monomial_cmp f.modulus f.terms
+IsPolynomial f = IsCanonical (monomial_cmp f.ring.weights) f.ring.modulus f.terms
 
 -- the term with this coefficient at a monomial
 abbrev pub term_of : Monomial → ℕ → Term Monomial

@@ -1,8 +1,8 @@
 ghost use Rattle.std.specs.Prelude.{◌≡◌, ◌<◌, ◌≤◌, [], length, slice_get, Some, IfSome, IfOk, IsTrue, ◌↔◌};
-ghost use Rattle.sf_algebra.specs.Monomials.{product, monomial_cmp};
-ghost use Rattle.sf_algebra.specs.Multiples.{negative, multiple};
-ghost use Rattle.sf_algebra.specs.Polynomials.{polynomial_product};
-ghost use Rattle.sf_algebra.specs.Sums.{put, add};
+ghost use Rattle.sf_algebra.specs.Multiples.{negative};
+ghost use Rattle.sf_algebra.specs.Polynomials.{polynomial_sum, polynomial_multiple, polynomial_product};
+ghost use Rattle.sf_algebra.specs.Rings.{plain};
+ghost use Rattle.sf_algebra.specs.Sums.{put};
 ghost use Rattle.sf_poly.specs.Bounds.{IsBoundedBy, MultipleFits, ProductFits};
 ghost use Rattle.sf_poly.specs.Equality.{same_polynomial, same_polynomial_equivalence, same_polynomial_partial};
 ghost use Rattle.sf_poly.specs.Polynomials.{IsPolynomial, term_of, lead, degree};
@@ -15,8 +15,8 @@ use sf_mono::Mono;
 use std::alloc::Global;
 use std::marker::Model;
 
-/// A polynomial over the residues modulo a prime. Contracts see it as the modulus and the list of its terms, the
-/// greatest first and none with the coefficient 0.
+/// A polynomial over the residues modulo a prime. Contracts see it as the ring, in which each variable has the weight 1,
+/// and the list of its terms, the greatest first and none with the coefficient 0.
 #[derive(Debug, Drop)]
 pub struct Poly {
     modulus: Modulus,
@@ -24,19 +24,20 @@ pub struct Poly {
 }
 
 impl Model for Poly {
+    ghost use Rattle.sf_algebra.specs.Rings.{plain};
     ghost use Rattle.sf_poly.specs.Polynomials.{Polynomial, IsPolynomial};
 
     ghost Value = { Polynomial };
 
-    ghost view = { λ f. record { modulus = f.modulus; terms = f.terms.items } };
+    ghost view = { λ f. record { ring = plain f.modulus; terms = f.terms.items } };
 
-    ghost invariant = { λ f. IsPolynomial (record { modulus = f.modulus; terms = f.terms.items }) };
+    ghost invariant = { λ f. IsPolynomial (record { ring = plain f.modulus; terms = f.terms.items }) };
 }
 
 impl Poly {
     /// The polynomial 0. It allocates nothing yet.
     pub fn zero(alloc: Global, modulus: Modulus) -> Poly
-        ensures zero { result ≡ record { modulus = modulus; terms = [] } }
+        ensures zero { result ≡ record { ring = plain modulus; terms = [] } }
     {
         Poly {
             modulus,
@@ -47,7 +48,7 @@ impl Poly {
     /// The polynomial with one term, or 0 where its coefficient is 0.
     pub fn term(alloc: Global, modulus: Modulus, a: Mono, c: u32) -> Result<Poly, OutOfMemory>
         requires residue { c < modulus }
-        ensures term { IfOk result (λ f. f ≡ record { modulus = modulus; terms = put a c [] }) }
+        ensures term { IfOk result (λ f. f ≡ record { ring = plain modulus; terms = put a c [] }) }
     {
         let mut terms = Vec::new(alloc);
         push_nonzero(
@@ -62,8 +63,8 @@ impl Poly {
 
     /// The sum with a polynomial of the same modulus.
     pub fn add(&self, alloc: Global, other: &Poly) -> Result<Poly, OutOfMemory>
-        requires modulus { self.now.modulus ≡ other.now.modulus }
-        ensures sum { IfOk result (λ f. f ≡ record self.now { terms = add monomial_cmp self.now.modulus self.now.terms other.now.terms }) }
+        requires ring { self.now.ring ≡ other.now.ring }
+        ensures sum { IfOk result (λ f. f ≡ record self.now { terms = polynomial_sum self.now.ring self.now.terms other.now.terms }) }
     {
         let terms = add_terms(alloc, self.modulus, &self.terms, &other.terms)?;
         Ok(Poly {
@@ -74,9 +75,9 @@ impl Poly {
 
     /// The difference with a polynomial of the same modulus.
     pub fn sub(&self, alloc: Global, other: &Poly) -> Result<Poly, OutOfMemory>
-        requires modulus { self.now.modulus ≡ other.now.modulus }
+        requires ring { self.now.ring ≡ other.now.ring }
         ensures difference { IfOk result (λ f. f ≡ record self.now {
-          terms = add monomial_cmp self.now.modulus self.now.terms (negative self.now.modulus other.now.terms);
+          terms = polynomial_sum self.now.ring self.now.terms (negative self.now.ring.modulus other.now.terms);
         }) }
     {
         let negative = negative(alloc, self.modulus, &other.terms)?;
@@ -91,10 +92,10 @@ impl Poly {
     ///
     /// It fits where the exponents of `a` and the degree add to at most 65,535.
     pub fn scale(&self, alloc: Global, a: Mono, c: u32) -> Result<Poly, OutOfMemory>
-        requires residue { c < self.now.modulus }
+        requires residue { c < self.now.ring.modulus }
         requires room { MultipleFits a self.now.terms }
         ensures multiple { IfOk result (λ f. f ≡ record self.now {
-          terms = multiple monomial_cmp product self.now.modulus (term_of a c) self.now.terms;
+          terms = polynomial_multiple self.now.ring (term_of a c) self.now.terms;
         }) }
     {
         if c == 0 {
@@ -115,10 +116,10 @@ impl Poly {
     ///
     /// It fits where one of the two is 0, or their degrees add to at most 65,535.
     pub fn mul(&self, alloc: Global, other: &Poly) -> Result<Poly, OutOfMemory>
-        requires modulus { self.now.modulus ≡ other.now.modulus }
+        requires ring { self.now.ring ≡ other.now.ring }
         requires room { ProductFits self.now.terms other.now.terms }
         ensures product { IfOk result (λ f. f ≡ record self.now {
-          terms = polynomial_product self.now.modulus self.now.terms other.now.terms;
+          terms = polynomial_product self.now.ring self.now.terms other.now.terms;
         }) }
     {
         let terms = product_of_terms(alloc, self.modulus, &self.terms, &other.terms)?;
@@ -143,8 +144,8 @@ impl Poly {
         ensures greatest { IfSome result (λ d. IsBoundedBy d self.now.terms) }
         ensures bounded { IfSome result (λ d. d ≤ 65535) }
     {
-        let (monomial, _) = self.lead()?;
-        Some(monomial.sum())
+        let first = self.terms.first()?;
+        Some(first.monomial.sum())
     }
 
     /// Whether the products of the monomial `a` with all terms have exponents that add to at most 65,535.
@@ -187,7 +188,7 @@ impl Poly {
 
     /// The prime that the coefficients are taken modulo.
     pub fn modulus(&self) -> Modulus
-        ensures modulus { result ≡ self.now.modulus }
+        ensures ring { self.now.ring ≡ plain result }
         ensures polynomial { IsPolynomial self.now }
     {
         self.modulus

@@ -3,6 +3,7 @@ ghost use Rattle.std.specs.List.{AllByRecursion};
 ghost use Rattle.sf_algebra.specs.Monomials.{product, monomial_cmp};
 ghost use Rattle.sf_algebra.specs.Multiples.{multiple};
 ghost use Rattle.sf_algebra.specs.Polynomials.{polynomial_product};
+ghost use Rattle.sf_algebra.specs.Rings.{plain, ones};
 ghost use Rattle.sf_algebra.specs.Terms.{IsCanonical, IsNonzeroResidue};
 ghost use Rattle.sf_poly.specs.Bounds.{HasRoom};
 
@@ -20,9 +21,9 @@ pub fn multiple_of_terms(
 ) -> Result<Vec<Term>, OutOfMemory>
     requires room { HasRoom factor.now.at terms.now }
     requires factor { IsNonzeroResidue modulus factor.now }
-    requires terms { IsCanonical monomial_cmp modulus terms.now }
-    ensures multiple { IfOk result (λ v. v.items ≡ multiple monomial_cmp product modulus factor.now terms.now) }
-    ensures canonical { IfOk result (λ v. IsCanonical monomial_cmp modulus v.items) }
+    requires terms { IsCanonical (monomial_cmp ones) modulus terms.now }
+    ensures multiple { IfOk result (λ v. v.items ≡ multiple (monomial_cmp ones) product modulus factor.now terms.now) }
+    ensures canonical { IfOk result (λ v. IsCanonical (monomial_cmp ones) modulus v.items) }
 {
     // the modulus is a prime, so that no product is 0
     modulus.facts();
@@ -42,9 +43,9 @@ pub fn product_of_terms(
 ) -> Result<Vec<Term>, OutOfMemory>
     requires room { AllByRecursion (λ t. HasRoom t.at right.now) left.now }
     requires left { AllByRecursion (IsNonzeroResidue modulus) left.now }
-    requires right { IsCanonical monomial_cmp modulus right.now }
-    ensures product { IfOk result (λ v. v.items ≡ polynomial_product modulus left.now right.now) }
-    ensures canonical { IfOk result (λ v. IsCanonical monomial_cmp modulus v.items) }
+    requires right { IsCanonical (monomial_cmp ones) modulus right.now }
+    ensures product { IfOk result (λ v. v.items ≡ polynomial_product (plain modulus) left.now right.now) }
+    ensures canonical { IfOk result (λ v. IsCanonical (monomial_cmp ones) modulus v.items) }
 {
     match left {
         [] => Ok(Vec::new(alloc)),

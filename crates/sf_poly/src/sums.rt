@@ -1,6 +1,7 @@
 ghost use Rattle.std.specs.Prelude.{◌≡◌, [], ◌++◌, IfOk, OnOk, OnErr};
 ghost use Rattle.sf_algebra.specs.Monomials.{monomial_cmp};
 ghost use Rattle.sf_algebra.specs.Multiples.{negative};
+ghost use Rattle.sf_algebra.specs.Rings.{ones};
 ghost use Rattle.sf_algebra.specs.Sums.{put, add};
 ghost use Rattle.sf_algebra.specs.Terms.{IsCanonical};
 
@@ -27,10 +28,10 @@ pub fn add_terms(
     mut left: &[Term],
     mut right: &[Term],
 ) -> Result<Vec<Term>, OutOfMemory>
-    requires left { IsCanonical monomial_cmp modulus left.now }
-    requires right { IsCanonical monomial_cmp modulus right.now }
-    ensures sum { IfOk result (λ v. v.items ≡ add monomial_cmp modulus left.now right.now) }
-    ensures canonical { IfOk result (λ v. IsCanonical monomial_cmp modulus v.items) }
+    requires left { IsCanonical (monomial_cmp ones) modulus left.now }
+    requires right { IsCanonical (monomial_cmp ones) modulus right.now }
+    ensures sum { IfOk result (λ v. v.items ≡ add (monomial_cmp ones) modulus left.now right.now) }
+    ensures canonical { IfOk result (λ v. IsCanonical (monomial_cmp ones) modulus v.items) }
 {
     let mut sum = Vec::with_capacity(alloc, left.len().saturating_add(right.len()))?;
     while let ([t, ts @ ..], [u, us @ ..]) = (left, right) {
@@ -58,9 +59,9 @@ pub fn add_terms(
 
 /// The terms with the negatives of their coefficients.
 pub fn negative(alloc: Global, modulus: Modulus, terms: &[Term]) -> Result<Vec<Term>, OutOfMemory>
-    requires { IsCanonical monomial_cmp modulus terms.now }
+    requires { IsCanonical (monomial_cmp ones) modulus terms.now }
     ensures negative { IfOk result (λ v. v.items ≡ negative modulus terms.now) }
-    ensures canonical { IfOk result (λ v. IsCanonical monomial_cmp modulus v.items) }
+    ensures canonical { IfOk result (λ v. IsCanonical (monomial_cmp ones) modulus v.items) }
 {
     let mut negative = Vec::with_capacity(alloc, terms.len())?;
     for term in terms {

@@ -1,4 +1,5 @@
 ghost use Rattle.std.specs.Prelude.{◌≡◌, IfOk};
+ghost use Rattle.sf_algebra.specs.Rings.{plain};
 
 use super::*;
 use sf_field::{Copied, Modulus};
@@ -11,7 +12,7 @@ type Row = (u16, u16, u32);
 
 /// The sum of the terms.
 fn polynomial(alloc: Global, modulus: Modulus, rows: &[Row]) -> Result<Poly, Fail>
-    ensures { IfOk result (λ f. f.modulus ≡ modulus) }
+    ensures { IfOk result (λ f. f.ring ≡ plain modulus) }
 {
     match rows {
         [] => Ok(Poly::zero(alloc, modulus)),
@@ -26,7 +27,7 @@ fn polynomial(alloc: Global, modulus: Modulus, rows: &[Row]) -> Result<Poly, Fai
 
 /// Of two polynomials the sum, the difference and the product.
 fn results(alloc: Global, f: &Poly, g: &Poly) -> Result<[Poly; 3], Fail>
-    requires { f.now.modulus ≡ g.now.modulus }
+    requires { f.now.ring ≡ g.now.ring }
 {
     if !f.product_fits(g) {
         return Err("too great".into());

@@ -4,6 +4,7 @@ use Rattle.std.specs.List.{AllByRecursion, slice_get, range_with_len}
 use Rattle.std.proofs.lemmas.List.{take-append-drop}
 use Rattle.std.proofs.lemmas.List.FromFn.{length-range_with_len, get_or-range_with_len}
 use Rattle.std.proofs.lemmas.Option.{slice_get-get_or}
+use Rattle.sf_algebra.specs.Rings.{ones}
 use Rattle.sf_algebra.specs.Terms.{Term, IsDescending}
 use Rattle.sf_algebra.specs.Vectors.{Place, place_cmp, entry}
 use Rattle.sf_algebra.specs.Printing.{polynomial_text, row_text, comma}
@@ -37,13 +38,13 @@ module _ (column : ℕ) (ts : List (Term Place)) (k : ℕ) where
     SameEntriesPast-next h = λ i later. sym (ap (entry i) rest ∙ entry-elsewhere i t (drop (k + 1) ts) (λ e. omega arith))
 
     -- a term at a later column is the first past this one
-    pub IsFromColumn-past : IsDescending place_cmp ts → IsFromColumn column k ts → t.at.position ≢ column → IsFromColumn (column + 1) k ts
+    pub IsFromColumn-past : IsDescending (place_cmp ones) ts → IsFromColumn column k ts → t.at.position ≢ column → IsFromColumn (column + 1) k ts
     IsFromColumn-past d h other =
         let here : column ≤ t.at.position = (subst Stands rest h).0 in
         let later : column + 1 ≤ t.at.position = omega arith in
-        let descending = subst (IsDescending place_cmp) rest (IsDescending-back place_cmp (take k ts) (drop k ts) (subst (IsDescending place_cmp) (sym (take-append-drop k ts)) d)) in
+        let descending = subst (IsDescending (place_cmp ones)) rest (IsDescending-back (place_cmp ones) (take k ts) (drop k ts) (subst (IsDescending (place_cmp ones)) (sym (take-append-drop k ts)) d)) in
         subst (AllByRecursion (λ u. column + 1 ≤ u.at.position)) (sym rest)
-        (later, AllByRecursion-weaken _ _ (λ u e. omega arith) (drop (k + 1) ts) (IsDescending-positions t (drop (k + 1) ts) descending))
+        (later, AllByRecursion-weaken _ _ (λ u e. omega arith) (drop (k + 1) ts) (IsDescending-positions ones t (drop (k + 1) ts) descending))
 
 pub IsFromColumn-first : (ts : List (Term Place)) → IsFromColumn 0 0 ts
 IsFromColumn-first [] = tt

@@ -5,6 +5,7 @@ use Rattle.std.specs.List.{list_all}
 use Rattle.std.specs.Str.{bytes_eq}
 use Rattle.sf_algebra.specs.Residues.{negative_mod}
 use Rattle.sf_algebra.specs.Monomials.{Monomial, from_exponents}
+use Rattle.sf_algebra.specs.Rings.{plain, ones}
 use Rattle.sf_algebra.specs.Terms.{Term}
 use Rattle.sf_algebra.specs.Vectors.{Place, Vector, place_cmp, term_degree, row_degree}
 use Rattle.sf_algebra.specs.Matrices.{Matrix}
@@ -37,12 +38,12 @@ placed_terms ring column (entry ∷ entries) = map (placed_term ring column) ent
 -- a row: equal terms meet, zeros vanish, and it has the degree of its greatest term
 abbrev pub row_vector : Ring → List ℤ → List (List RawTerm) → Vector
 row_vector ring degrees entries =
-    let terms = normal place_cmp ring.modulus (placed_terms ring 0 entries) in
-    record { degree = row_degree degrees terms; terms = terms }
+    let terms = normal (place_cmp ones) ring.modulus (placed_terms ring 0 entries) in
+    record { degree = row_degree ones degrees terms; terms = terms }
 
 -- the matrix with these rows over the free module with these degrees
 abbrev pub relations_of : Ring → List ℤ → List (List (List RawTerm)) → Matrix
-relations_of ring degrees rows = record { modulus = ring.modulus; target = degrees; rows = map (row_vector ring degrees) rows }
+relations_of ring degrees rows = record { ring = plain ring.modulus; target = degrees; rows = map (row_vector ring degrees) rows }
 
 -- all variables of a term, of an entry, of a row are the ring's
 abbrev pub knows_term : List (List ℕ) → RawTerm → Bool
@@ -57,7 +58,7 @@ has_shape columns = list_all (λ (row : List (List RawTerm)). length row == colu
 
 -- all terms of a vector have its degree
 abbrev pub is_homogeneous : List ℤ → Vector → Bool
-is_homogeneous degrees v = list_all (λ t. int_eq (term_degree degrees t) v.degree) v.terms
+is_homogeneous degrees v = list_all (λ t. int_eq (term_degree ones degrees t) v.degree) v.terms
 
 -- the number of the first row that isn't homogeneous, where the first of these rows has this number
 abbrev pub first_fault : ℕ → List ℤ → List Vector → Option ℕ

@@ -23,9 +23,9 @@ impl Eq for Matrix {
 }
 
 impl Hash for Matrix {
-    ghost hash_input = { λ m. ⟦<Modulus as Hash>⟧.hash_input m.modulus ++ (fed.slice ⟦<i32 as Hash>⟧.hash_input m.target ++ fed.slice ⟦<Vector as Hash>⟧.hash_input m.rows) };
+    ghost hash_input = { λ m. ⟦<Modulus as Hash>⟧.hash_input m.ring.modulus ++ (fed.slice ⟦<i32 as Hash>⟧.hash_input m.target ++ fed.slice ⟦<Vector as Hash>⟧.hash_input m.rows) };
 
-    ghost respects_eq = { λ m n h. ap (λ k. ⟦<Modulus as Hash>⟧.hash_input k.modulus ++ (fed.slice ⟦<i32 as Hash>⟧.hash_input k.target ++ fed.slice ⟦<Vector as Hash>⟧.hash_input k.rows)) ((Decides-same_matrix m n).0 h) };
+    ghost respects_eq = { λ m n h. ap (λ k. ⟦<Modulus as Hash>⟧.hash_input k.ring.modulus ++ (fed.slice ⟦<i32 as Hash>⟧.hash_input k.target ++ fed.slice ⟦<Vector as Hash>⟧.hash_input k.rows)) ((Decides-same_matrix m n).0 h) };
 
     fn hash<H: Hasher>(&self, state: &mut H) {
         self.modulus.hash(state);

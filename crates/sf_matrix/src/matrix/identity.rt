@@ -1,5 +1,6 @@
 ghost use Rattle.std.specs.Prelude.{◌≡◌, IfOk};
 ghost use Rattle.sf_algebra.specs.MatrixOperations.{unit_vector, identity};
+ghost use Rattle.sf_algebra.specs.Rings.{plain};
 
 use crate::free::Free;
 use crate::matrix::Matrix;
@@ -11,7 +12,7 @@ use std::alloc::Global;
 impl Matrix {
     /// The identity of a free module: its rows are the unit vectors of the generators.
     pub fn identity(alloc: Global, modulus: Modulus, f: &Free) -> Result<Matrix, OutOfMemory>
-        ensures identity { IfOk result (λ m. m ≡ identity modulus f.now.degrees) }
+        ensures identity { IfOk result (λ m. m ≡ identity (plain modulus) f.now.degrees) }
     {
         modulus.facts();
         let degrees = f.degrees.as_slice();

@@ -3,6 +3,7 @@ ghost use Rattle.std.specs.List.{AllByRecursion};
 ghost use Rattle.sf_algebra.specs.Matrices.{row_degrees};
 ghost use Rattle.sf_algebra.specs.MatrixOperations.{moved, degree_sums, kronecker_terms, kronecker};
 ghost use Rattle.sf_algebra.specs.Multiples.{place_product, term_product};
+ghost use Rattle.sf_algebra.specs.Rings.{plain, ones};
 ghost use Rattle.sf_algebra.specs.Terms.{IsCanonical, IsNonzeroResidue};
 ghost use Rattle.sf_algebra.specs.Vectors.{place_cmp};
 ghost use Rattle.sf_matrix.specs.Bounds.{IsDegree, SumsFit, HasRoom, TermsFit, PositionsFit, KroneckerFits};
@@ -22,7 +23,7 @@ impl Matrix {
     /// Row `i` of this matrix and row `k` of `other` give row `i * other.rows() + k`; the entries at the columns `j`
     /// and `l` give the one at `j * other.cols() + l`. Degrees add.
     pub fn kron(&self, alloc: Global, other: &Matrix) -> Result<Matrix, OutOfMemory>
-        requires modulus { other.now.modulus ≡ self.now.modulus }
+        requires ring { other.now.ring ≡ self.now.ring }
         requires columns { length self.now.target * length other.now.target < 2 ^ 64 }
         requires target { SumsFit self.now.target other.now.target }
         requires degrees { SumsFit (row_degrees self.now) (row_degrees other.now) }
@@ -59,7 +60,7 @@ fn push_rows(
     requires degrees { AllByRecursion (λ w. IsDegree (left.now.degree +ℤ w.degree)) others.now }
     requires room { AllByRecursion (λ w. TermsFit left.now.terms w.terms) others.now }
     requires positions { AllByRecursion (λ w. PositionsFit columns left.now.terms w.terms) others.now }
-    ensures ok { OnOk result (rows.new.items ≡ rows.old.items ++ map (kronecker_vector modulus columns left.now) others.now) }
+    ensures ok { OnOk result (rows.new.items ≡ rows.old.items ++ map (kronecker_vector (plain modulus) columns left.now) others.now) }
 {
     for right in others {
         rows.push(kronecker_vector(alloc, modulus, columns, left, right)?)?;
@@ -80,7 +81,7 @@ fn kronecker_vector(
     requires degree { IsDegree (left.now.degree +ℤ right.now.degree) }
     requires room { TermsFit left.now.terms right.now.terms }
     requires positions { PositionsFit columns left.now.terms right.now.terms }
-    ensures { IfOk result (λ v. v ≡ kronecker_vector modulus columns left.now right.now) }
+    ensures { IfOk result (λ v. v ≡ kronecker_vector (plain modulus) columns left.now right.now) }
 {
     let terms = kronecker_terms(alloc, modulus, columns, &left.terms, &right.terms)?;
     let degree = degree_sum(left.degree, right.degree);
@@ -99,8 +100,8 @@ fn kronecker_terms(
     requires right { AllByRecursion (IsNonzeroResidue modulus) right.now }
     requires room { TermsFit left.now right.now }
     requires positions { PositionsFit columns left.now right.now }
-    ensures terms { IfOk result (λ v. v.items ≡ kronecker_terms modulus columns left.now right.now) }
-    ensures canonical { IfOk result (λ v. IsCanonical place_cmp modulus v.items) }
+    ensures terms { IfOk result (λ v. v.items ≡ kronecker_terms (plain modulus) columns left.now right.now) }
+    ensures canonical { IfOk result (λ v. IsCanonical (place_cmp ones) modulus v.items) }
 {
     let products = left.len().saturating_mul(right.len());
     let mut products = Vec::with_capacity(alloc, products)?;

@@ -15,7 +15,7 @@ impl Matrix {
     ///
     /// Each row's degree is at most 65,535 above each degree of the target of `next`.
     pub fn product(&self, alloc: Global, next: &Matrix) -> Result<Matrix, OutOfMemory>
-        requires modulus { next.now.modulus ≡ self.now.modulus }
+        requires ring { next.now.ring ≡ self.now.ring }
         requires meet { row_degrees next.now ≡ self.now.target }
         requires room { AllByRecursion (λ v. DegreeFits next.now.target v.degree) self.now.rows }
         ensures product { IfOk result (λ m. m ≡ matrix_product self.now next.now) }

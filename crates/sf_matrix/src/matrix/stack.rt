@@ -9,7 +9,7 @@ use std::alloc::Global;
 impl Matrix {
     /// The rows of this matrix, then those of `below`, which goes to the same free module.
     pub fn stack(&self, alloc: Global, below: &Matrix) -> Result<Matrix, OutOfMemory>
-        requires modulus { below.now.modulus ≡ self.now.modulus }
+        requires ring { below.now.ring ≡ self.now.ring }
         requires target { below.now.target ≡ self.now.target }
         ensures stacked { IfOk result (λ m. m ≡ stacked self.now below.now) }
     {

@@ -11,7 +11,7 @@ mod premises;
 mod rows;
 
 fn product_of(alloc: Global, m: &Matrix, next: &Matrix) -> Result<Matrix, Fail>
-    requires modulus { next.now.modulus ≡ m.now.modulus }
+    requires ring { next.now.ring ≡ m.now.ring }
     requires meet { row_degrees next.now ≡ m.now.target }
 {
     want(product_fits(m, next), "room for a product")?;
@@ -24,7 +24,7 @@ fn transpose_of(alloc: Global, m: &Matrix) -> Result<Matrix, Fail> {
 }
 
 fn kronecker_of(alloc: Global, m: &Matrix, other: &Matrix) -> Result<Matrix, Fail>
-    requires modulus { other.now.modulus ≡ m.now.modulus }
+    requires ring { other.now.ring ≡ m.now.ring }
 {
     want(degrees_fit(m, other), "room for degrees")?;
     want(terms_have_room(m, other), "room for products")?;

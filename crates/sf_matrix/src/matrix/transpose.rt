@@ -1,6 +1,7 @@
 ghost use Rattle.std.specs.Prelude.{◌≡◌, ◌<◌, ◌≤ℤ◌, ◌++◌, [], ◌∷◌, length, map, negsuc, neg_ℤ, IfOk, OnOk, OnErr};
 ghost use Rattle.std.specs.List.{AllByRecursion};
 ghost use Rattle.sf_algebra.specs.MatrixOperations.{transposed};
+ghost use Rattle.sf_algebra.specs.Rings.{ones};
 ghost use Rattle.sf_algebra.specs.Terms.{IsDescending};
 ghost use Rattle.sf_algebra.specs.Vectors.{place_cmp};
 ghost use Rattle.sf_matrix.specs.Bounds.{HasNegative};
@@ -97,7 +98,7 @@ fn rows_of(
 ) -> Result<Vec<Vector>, OutOfMemory>
     requires length { length columns.items ≡ length degrees.now }
     requires degrees { AllByRecursion HasNegative degrees.now }
-    requires descending { AllByRecursion (IsDescending place_cmp) columns.items }
+    requires descending { AllByRecursion (IsDescending (place_cmp ones)) columns.items }
     requires nonzero { AllByRecursion (AllByRecursion (λ t. 0 < t.coefficient)) columns.items }
     ensures { IfOk result (λ v. v.items ≡ vectors_of degrees.now columns.items) }
 {

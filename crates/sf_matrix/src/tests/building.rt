@@ -1,6 +1,7 @@
 ghost use Rattle.std.specs.Prelude.{◌≡◌, ◌++◌, IfOk, OnOk, IsTrue};
 ghost use Rattle.std.specs.List.{AllByRecursion};
 ghost use Rattle.sf_algebra.specs.Matrices.{row_degrees};
+ghost use Rattle.sf_algebra.specs.Rings.{ones};
 ghost use Rattle.sf_algebra.specs.Vectors.{IsTermOfDegree};
 ghost use Rattle.sf_matrix.specs.Bounds.{HasRoom};
 
@@ -60,7 +61,7 @@ fn push_rows(
     entries: &[Entry],
 ) -> Result<(), Fail>
     requires target { matrix.old.target ≡ target.now }
-    ensures modulus { OnOk result (matrix.new.modulus ≡ matrix.old.modulus) }
+    ensures modulus { OnOk result (matrix.new.ring ≡ matrix.old.ring) }
     ensures target { OnOk result (matrix.new.target ≡ matrix.old.target) }
     ensures degrees { OnOk result (row_degrees matrix.new ≡ row_degrees matrix.old ++ degrees.now) }
 {
@@ -77,7 +78,7 @@ fn push_rows(
 }
 
 fn have_degree(target: &[i32], degree: i32, terms: &[Term]) -> bool
-    ensures { IsTrue result → AllByRecursion (IsTermOfDegree target.now degree) terms.now }
+    ensures { IsTrue result → AllByRecursion (IsTermOfDegree ones target.now degree) terms.now }
 {
     match terms {
         [] => true,
@@ -88,7 +89,7 @@ fn have_degree(target: &[i32], degree: i32, terms: &[Term]) -> bool
 }
 
 fn has_degree(target: &[i32], degree: i32, term: &Term) -> bool
-    ensures { IsTrue result → IsTermOfDegree target.now degree term.now }
+    ensures { IsTrue result → IsTermOfDegree ones target.now degree term.now }
 {
     term.position < target.len() as u64
         && degree as i64 == target[term.position as usize] as i64 + term.monomial.sum() as i64

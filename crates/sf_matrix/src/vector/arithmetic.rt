@@ -1,6 +1,7 @@
 ghost use Rattle.std.specs.Prelude.{◌≡◌, ◌<◌, ◌+ℤ◌, pos, IfOk};
 ghost use Rattle.sf_algebra.specs.Monomials.{exponent_sum};
 ghost use Rattle.sf_algebra.specs.Multiples.{place_product, negative, multiple};
+ghost use Rattle.sf_algebra.specs.Rings.{ones};
 ghost use Rattle.sf_algebra.specs.Sums.{add};
 ghost use Rattle.sf_algebra.specs.Terms.{IsCanonical};
 ghost use Rattle.sf_algebra.specs.Vectors.{place_cmp};
@@ -22,10 +23,10 @@ impl Vector {
         other: &Vector,
     ) -> Result<Vector, OutOfMemory>
         requires degree { other.now.degree ≡ self.now.degree }
-        requires left { IsCanonical place_cmp modulus self.now.terms }
-        requires right { IsCanonical place_cmp modulus other.now.terms }
-        ensures sum { IfOk result (λ v. v ≡ record { degree = self.now.degree; terms = add place_cmp modulus self.now.terms other.now.terms }) }
-        ensures canonical { IfOk result (λ v. IsCanonical place_cmp modulus v.terms) }
+        requires left { IsCanonical (place_cmp ones) modulus self.now.terms }
+        requires right { IsCanonical (place_cmp ones) modulus other.now.terms }
+        ensures sum { IfOk result (λ v. v ≡ record { degree = self.now.degree; terms = add (place_cmp ones) modulus self.now.terms other.now.terms }) }
+        ensures canonical { IfOk result (λ v. IsCanonical (place_cmp ones) modulus v.terms) }
     {
         let terms = add_terms(alloc, modulus, &self.terms, &other.terms)?;
         Ok(Vector {
@@ -36,9 +37,9 @@ impl Vector {
 
     /// The negative, of the same degree.
     pub fn negative(&self, alloc: Global, modulus: Modulus) -> Result<Vector, OutOfMemory>
-        requires canonical { IsCanonical place_cmp modulus self.now.terms }
+        requires canonical { IsCanonical (place_cmp ones) modulus self.now.terms }
         ensures negative { IfOk result (λ v. v ≡ record { degree = self.now.degree; terms = negative modulus self.now.terms }) }
-        ensures canonical { IfOk result (λ v. IsCanonical place_cmp modulus v.terms) }
+        ensures canonical { IfOk result (λ v. IsCanonical (place_cmp ones) modulus v.terms) }
     {
         let terms = negative_terms(alloc, modulus, &self.terms)?;
         Ok(Vector {
@@ -55,15 +56,15 @@ impl Vector {
         a: Mono,
         c: u32,
     ) -> Result<Vector, OutOfMemory>
-        requires canonical { IsCanonical place_cmp modulus self.now.terms }
+        requires canonical { IsCanonical (place_cmp ones) modulus self.now.terms }
         requires residue { c < modulus }
         requires room { HasRoom a self.now.terms }
         requires degree { IsDegree (self.now.degree +ℤ pos (exponent_sum a)) }
         ensures multiple { IfOk result (λ v. v ≡ record {
           degree = self.now.degree +ℤ pos (exponent_sum a);
-          terms = multiple place_cmp place_product modulus (record { at = a; coefficient = c }) self.now.terms;
+          terms = multiple (place_cmp ones) place_product modulus (record { at = a; coefficient = c }) self.now.terms;
         }) }
-        ensures canonical { IfOk result (λ v. IsCanonical place_cmp modulus v.terms) }
+        ensures canonical { IfOk result (λ v. IsCanonical (place_cmp ones) modulus v.terms) }
     {
         let factor = Term {
             position: 0,
@@ -94,9 +95,9 @@ pub(crate) fn negative_terms(
     modulus: Modulus,
     terms: &[Term],
 ) -> Result<Vec<Term>, OutOfMemory>
-    requires canonical { IsCanonical place_cmp modulus terms.now }
+    requires canonical { IsCanonical (place_cmp ones) modulus terms.now }
     ensures negative { IfOk result (λ v. v.items ≡ negative modulus terms.now) }
-    ensures canonical { IfOk result (λ v. IsCanonical place_cmp modulus v.items) }
+    ensures canonical { IfOk result (λ v. IsCanonical (place_cmp ones) modulus v.items) }
 {
     let mut negative = Vec::with_capacity(alloc, terms.len())?;
     for term in terms {

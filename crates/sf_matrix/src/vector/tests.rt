@@ -1,5 +1,6 @@
 ghost use Rattle.std.specs.Prelude.{◌<◌, ◌+ℤ◌, pos};
 ghost use Rattle.sf_algebra.specs.Monomials.{exponent_sum};
+ghost use Rattle.sf_algebra.specs.Rings.{ones};
 ghost use Rattle.sf_algebra.specs.Terms.{IsCanonical};
 ghost use Rattle.sf_algebra.specs.Vectors.{place_cmp};
 ghost use Rattle.sf_matrix.specs.Bounds.{IsDegree};
@@ -45,7 +46,7 @@ fn multiple_of(
     a: Mono,
     c: u32,
 ) -> Result<Vector, Fail>
-    requires canonical { IsCanonical place_cmp modulus vector.now.terms }
+    requires canonical { IsCanonical (place_cmp ones) modulus vector.now.terms }
     requires residue { c < modulus }
     requires degree { IsDegree (vector.now.degree +ℤ pos (exponent_sum a)) }
 {

@@ -1,6 +1,7 @@
 ghost use Rattle.std.specs.Prelude.{◌≡◌, ◌≤◌, ◌++◌, length, map, IfOk, IfSome, OnOk, SomeIff, IsTrue};
 ghost use Rattle.std.specs.List.{list_all};
 ghost use Rattle.std.specs.Ordering.{int_eq};
+ghost use Rattle.sf_algebra.specs.Rings.{plain, ones};
 ghost use Rattle.sf_algebra.specs.Vectors.{IsVector, generator_degree, term_degree, row_degree};
 ghost use Rattle.sf_session.specs.Placed.{placed_term, placed_terms, row_vector, is_homogeneous, is_written_degree};
 
@@ -23,7 +24,7 @@ pub fn place_row(
     requires written { IsTrue (list_all is_written_degree degrees.now) }
     ensures value { IfOk result (λ r.
         SomeIff r (IsTrue (is_homogeneous degrees.now (row_vector ring.now degrees.now entries.now))) (row_vector ring.now degrees.now entries.now)) }
-    ensures vector { IfOk result (λ r. IfSome r (IsVector ring.now.modulus degrees.now)) }
+    ensures vector { IfOk result (λ r. IfSome r (IsVector (plain ring.now.modulus) degrees.now)) }
 {
     let terms = placed_terms(alloc, ring, entries)?;
     let terms = sum_of_terms(alloc, ring.modulus, &terms)?;
@@ -69,7 +70,7 @@ fn push_entry(
 /// The degree of a row, that of its greatest term, and 0 where there is none.
 fn row_degree(degrees: &[i32], terms: &[Term]) -> i32
     requires written { IsTrue (list_all is_written_degree degrees.now) }
-    ensures { result ≡ row_degree degrees.now terms.now }
+    ensures { result ≡ row_degree ones degrees.now terms.now }
 {
     match terms.first() {
         None => 0,
@@ -80,7 +81,7 @@ fn row_degree(degrees: &[i32], terms: &[Term]) -> i32
 /// Whether all terms have this degree.
 fn have_degree(degrees: &[i32], degree: i32, terms: &[Term]) -> bool
     requires written { IsTrue (list_all is_written_degree degrees.now) }
-    ensures { result ≡ list_all (λ t. int_eq (term_degree degrees.now t) degree) terms.now }
+    ensures { result ≡ list_all (λ t. int_eq (term_degree ones degrees.now t) degree) terms.now }
 {
     terms
         .iter()
@@ -90,7 +91,7 @@ fn have_degree(degrees: &[i32], degree: i32, terms: &[Term]) -> bool
 /// The degree of a term: that of its generator and the sum of its exponents.
 fn term_degree(degrees: &[i32], term: &Term) -> i32
     requires written { IsTrue (list_all is_written_degree degrees.now) }
-    ensures { result ≡ term_degree degrees.now term.now }
+    ensures { result ≡ term_degree ones degrees.now term.now }
 {
     generator_degree(degrees, term.position as usize) + term.monomial.sum() as i32
 }

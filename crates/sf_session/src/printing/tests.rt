@@ -1,5 +1,6 @@
 ghost use Rattle.std.specs.Prelude.{◌≡◌, [], ◌∷◌, pos, IfOk};
 ghost use Rattle.sf_algebra.specs.Monomials.{from_exponents};
+ghost use Rattle.sf_algebra.specs.Rings.{plain};
 
 use super::*;
 use sf_field::Modulus;
@@ -48,14 +49,14 @@ fn monomial(exponents: [u16; 6]) -> Result<Mono, Fail>
 }
 
 fn no_rows(alloc: Global, degrees: List<i32>) -> Result<Matrix, Fail>
-    ensures { IfOk result (λ m. m ≡ record { modulus = 101; target = degrees; rows = [] }) }
+    ensures { IfOk result (λ m. m ≡ record { ring = plain 101; target = degrees; rows = [] }) }
 {
     let modulus = Modulus::from_number(101).ok_or("the modulus")?;
     Ok(Matrix::new(alloc, modulus, Free { degrees }))
 }
 
 fn over_zero(alloc: Global) -> Result<Matrix, Fail>
-    ensures { IfOk result (λ m. m ≡ record { modulus = 101; target = pos 0 ∷ []; rows = [] }) }
+    ensures { IfOk result (λ m. m ≡ record { ring = plain 101; target = pos 0 ∷ []; rows = [] }) }
 {
     let mut degrees = List::new(alloc);
     degrees.push(0)?;

@@ -13,7 +13,7 @@ use Rattle.sf_algebra.proofs.combination.matrices_act.Goals as goal
 pub returns : goal.returns
 returns c = record {
   canonical = IsCanonical-row_combination;
-  product_coefficients = λ p rows c k. coefficient_at-combination place_keys p (λ l. l.monomial) (λ l. row_at rows l.position) k c;
+  product_coefficients = λ ring rows c k. coefficient_at-combination (place_keys ring.weights) ring.modulus (λ l. l.monomial) (λ l. row_at rows l.position) k c;
   entries = entry-row_combination_products;
   one_coefficient = row_combination-one;
   coefficients = row_combination-add;
@@ -21,8 +21,8 @@ returns c = record {
   multiples = row_combination-multiple;
   negatives = row_combination-negative;
   negated_rows = λ m positive is_matrix. row_combination-negated m positive (HasCanonicalRows-from_IsMatrix m is_matrix);
-  products = λ m n positive d. sym (row_combination-matrix_product m.modulus positive m n d refl);
-  unit_coefficients = λ p positive rows d. row_combination-unit p positive rows;
+  products = λ m n positive d. sym (row_combination-matrix_product m.ring positive m n d refl);
+  unit_coefficients = λ ring positive rows d. row_combination-unit ring positive rows;
   unit_rows = row_combination-unit_rows;
   stacked_rows = row_combination-stacked;
 }

@@ -1,5 +1,5 @@
-use Rattle.sf_algebra.proofs.Divisors.{lcm-multiple, lcm-least, lcm-sum, exponent_sum-lcm}
+use Rattle.sf_algebra.proofs.Divisors.{lcm-multiple, lcm-least, lcm-sum, monomial_degree-lcm}
 use Rattle.sf_algebra.proofs.divisibility.monomial_multiples.Goals as goal
 
 pub returns : goal.returns
-returns c = record { common = lcm-multiple; least = lcm-least; sum = lcm-sum; bounded = exponent_sum-lcm }
+returns c = record { common = lcm-multiple; least = lcm-least; sum = lcm-sum; bounded = monomial_degree-lcm }

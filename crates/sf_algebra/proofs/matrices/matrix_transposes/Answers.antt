@@ -7,6 +7,6 @@ returns c = record {
   matrices = λ m h. (IsMatrix-transposed m h, row_degrees-transposed m);
   entries = entry-transposed;
   twice = transposed-transposed;
-  identities = λ p above degrees. transposed-identity p degrees above;
+  identities = λ ring above degrees. transposed-identity ring degrees above;
   products = transposed-matrix_product;
 }

@@ -7,12 +7,12 @@ use Rattle.sf_algebra.proofs.multiple.multiples_act.Goals as goal
 
 pub returns : goal.returns
 returns c = record {
-  canonical = IsCanonical-multiple place_keys;
-  product_coefficients = λ p s us k. coefficient_at-multiple place_keys p k s us;
-  one = multiple-one place_keys;
-  products = multiple-multiple place_keys;
-  sums = multiple-add place_keys;
-  coefficients = multiple-sum_mod place_keys;
-  negatives = multiple-negative_one place_keys;
-  terms = λ p prime s. multiple-map place_keys p s prime;
+  canonical = λ weights. IsCanonical-multiple (place_keys weights);
+  product_coefficients = λ weights p s us k. coefficient_at-multiple (place_keys weights) p k s us;
+  one = λ weights. multiple-one (place_keys weights);
+  products = λ weights. multiple-multiple (place_keys weights);
+  sums = λ weights. multiple-add (place_keys weights);
+  coefficients = λ weights. multiple-sum_mod (place_keys weights);
+  negatives = λ weights. multiple-negative_one (place_keys weights);
+  terms = λ weights p prime s. multiple-map (place_keys weights) p s prime;
 }

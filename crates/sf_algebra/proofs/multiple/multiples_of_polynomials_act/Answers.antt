@@ -7,12 +7,12 @@ use Rattle.sf_algebra.proofs.multiple.multiples_of_polynomials_act.Goals as goal
 
 pub returns : goal.returns
 returns c = record {
-  canonical = IsCanonical-multiple monomial_keys;
-  product_coefficients = λ p s us k. coefficient_at-multiple monomial_keys p k s us;
-  one = multiple-one monomial_keys;
-  products = multiple-multiple monomial_keys;
-  sums = multiple-add monomial_keys;
-  coefficients = multiple-sum_mod monomial_keys;
-  negatives = multiple-negative_one monomial_keys;
-  terms = λ p prime s. multiple-map monomial_keys p s prime;
+  canonical = λ weights. IsCanonical-multiple (monomial_keys weights);
+  product_coefficients = λ weights p s us k. coefficient_at-multiple (monomial_keys weights) p k s us;
+  one = λ weights. multiple-one (monomial_keys weights);
+  products = λ weights. multiple-multiple (monomial_keys weights);
+  sums = λ weights. multiple-add (monomial_keys weights);
+  coefficients = λ weights. multiple-sum_mod (monomial_keys weights);
+  negatives = λ weights. multiple-negative_one (monomial_keys weights);
+  terms = λ weights p prime s. multiple-map (monomial_keys weights) p s prime;
 }

@@ -1,4 +1,4 @@
-use Rattle.sf_algebra.proofs.Products.{product-comm, product-assoc, product-one_first, exponent_sum-product, monomial_cmp-product}
+use Rattle.sf_algebra.proofs.Products.{product-comm, product-assoc, product-one_first, monomial_cmp-product}
 use Rattle.sf_algebra.proofs.product.monomial_products.Goals as goal
 
 pub returns : goal.returns
@@ -6,6 +6,5 @@ returns c = record {
   commutative = product-comm;
   associative = product-assoc;
   one = product-one_first;
-  exponent_sums = exponent_sum-product;
   order = monomial_cmp-product;
 }

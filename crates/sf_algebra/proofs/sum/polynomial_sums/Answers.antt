@@ -7,9 +7,9 @@ use Rattle.sf_algebra.proofs.sum.polynomial_sums.Goals as goal
 
 pub returns : goal.returns
 returns c = record {
-  canonical = λ p positive. IsCanonical-normal monomial_cmp monomial_cmp_linear p positive;
-  coefficients = λ p ts k. coefficient_at-normal monomial_cmp monomial_cmp_linear p k ts;
-  unique = λ p positive. same_from_coefficients monomial_cmp monomial_cmp_linear p positive;
-  any_order = λ p positive. normal-IsPermutation monomial_cmp monomial_cmp_linear p positive;
-  parts = λ p positive. normal-append monomial_cmp monomial_cmp_linear p positive;
+  canonical = λ weights p positive. IsCanonical-normal (monomial_cmp weights) (monomial_cmp_linear weights) p positive;
+  coefficients = λ weights p ts k. coefficient_at-normal (monomial_cmp weights) (monomial_cmp_linear weights) p k ts;
+  unique = λ weights p positive. same_from_coefficients (monomial_cmp weights) (monomial_cmp_linear weights) p positive;
+  any_order = λ weights p positive. normal-IsPermutation (monomial_cmp weights) (monomial_cmp_linear weights) p positive;
+  parts = λ weights p positive. normal-append (monomial_cmp weights) (monomial_cmp_linear weights) p positive;
 }

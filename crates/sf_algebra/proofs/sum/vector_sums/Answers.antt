@@ -7,9 +7,9 @@ use Rattle.sf_algebra.proofs.sum.vector_sums.Goals as goal
 
 pub returns : goal.returns
 returns c = record {
-  canonical = λ p positive. IsCanonical-normal place_cmp place_cmp_linear p positive;
-  coefficients = λ p ts k. coefficient_at-normal place_cmp place_cmp_linear p k ts;
-  unique = λ p positive. same_from_coefficients place_cmp place_cmp_linear p positive;
-  any_order = λ p positive. normal-IsPermutation place_cmp place_cmp_linear p positive;
-  parts = λ p positive. normal-append place_cmp place_cmp_linear p positive;
+  canonical = λ weights p positive. IsCanonical-normal (place_cmp weights) (place_cmp_linear weights) p positive;
+  coefficients = λ weights p ts k. coefficient_at-normal (place_cmp weights) (place_cmp_linear weights) p k ts;
+  unique = λ weights p positive. same_from_coefficients (place_cmp weights) (place_cmp_linear weights) p positive;
+  any_order = λ weights p positive. normal-IsPermutation (place_cmp weights) (place_cmp_linear weights) p positive;
+  parts = λ weights p positive. normal-append (place_cmp weights) (place_cmp_linear weights) p positive;
 }

@@ -3,9 +3,9 @@ use Rattle.sf_algebra.proofs.vector.vectors_are_graded.Goals as goal
 
 pub returns : goal.returns
 returns c = record {
-  sums = λ p positive degrees. IsVector-add p degrees positive;
+  sums = λ ring positive degrees. IsVector-add ring degrees positive;
   negatives = IsVector-negative;
-  multiples = λ p positive degrees. IsVector-multiple p degrees positive;
+  multiples = λ ring positive degrees. IsVector-multiple ring degrees positive;
   combinations = IsVector-row_combination;
   coefficients = row_combination-IsVector;
   parts = IsVector-degree_part;

@@ -6,7 +6,7 @@ use Rattle.sf_groebner.proofs.bases.reduced_bases_are_unique.Goals as goal
 
 pub returns : goal.returns
 returns c = record {
-  span = λ m positive matrix. unique_reduced m.modulus positive m.target (InSpan m) (span_module m positive matrix);
-  syzygies = λ m positive. unique_reduced m.modulus positive (row_degrees m) (IsSyzygy m) (syzygy_module m positive);
-  graph = λ m positive. unique_reduced m.modulus positive (graph_degrees m) (IsGraphVector m) (graph_module m positive);
+  span = λ m positive matrix. unique_reduced m.ring positive m.target (InSpan m) (span_module m positive matrix);
+  syzygies = λ m positive. unique_reduced m.ring positive (row_degrees m) (IsSyzygy m) (syzygy_module m positive);
+  graph = λ m positive. unique_reduced m.ring positive (graph_degrees m) (IsGraphVector m) (graph_module m positive);
 }

@@ -10,7 +10,7 @@ pub returns : goal.returns
 returns c = record {
   syzygies = λ m positive is_matrix monic i j pair. (
     homogeneous_syzygy m is_matrix monic positive i j (before i j _ pair.earlier pair.later) pair.later pair.positions,
-    λ found. ReducesToZero-IsPairSyzygy m.modulus positive m.rows i j found.0.terms found.2,
+    λ found. ReducesToZero-IsPairSyzygy m.ring positive m.rows i j found.0.terms found.2,
   );
   span = λ m positive monic zs syzygies pairs.
       schreyer_homogeneous m positive monic zs syzygies (λ i j earlier later positions. pairs i j (record { earlier = earlier; later = later; positions = positions }));

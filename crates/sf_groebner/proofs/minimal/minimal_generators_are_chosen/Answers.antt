@@ -6,6 +6,6 @@ use Rattle.sf_groebner.proofs.minimal.minimal_generators_are_chosen.Goals as goa
 
 pub returns : goal.returns
 returns c = record {
-  span = λ base positive matrix. AreKept-chosen base.modulus base.target (InSpan base) positive (span_closed base positive);
-  zero = λ p positive target. AreKept-chosen p target IsZero positive (zero_closed p positive);
+  span = λ base positive matrix. AreKept-chosen base.ring base.target (InSpan base) positive (span_closed base positive);
+  zero = λ ring positive target. AreKept-chosen ring target IsZero positive (zero_closed ring positive);
 }

@@ -1,5 +1,6 @@
 use Rattle.std.proofs.Common.{◌≡◌, ◌++◌, rules, map, sym, ap, subst, ◌∙◌, IfOk}
 use Rattle.sf_algebra.specs.Multiples.{place_product, term_product}
+use Rattle.sf_algebra.specs.Rings.{ones}
 use Rattle.sf_algebra.specs.Vectors.{place_cmp}
 use Rattle.sf_algebra.proofs.Gathering.{combination_terms-nil, combination_terms-take, combination-gathered, read_row}
 use Rattle.sf_algebra.proofs.Lists.{AllByRecursion-get}
@@ -26,5 +27,5 @@ loop-factor-preserved c =
 
 pub returns-clause-combination : goal.returns-clause-combination
 returns-clause-combination c =
-    let sum = combination-gathered place_cmp place_product c.args.modulus _ _ c.args.c.now _ _ c.loop-factor-test.false c.loop-factor.invariant in
+    let sum = combination-gathered (place_cmp ones) place_product c.args.modulus _ _ c.args.c.now _ _ c.loop-factor-test.false c.loop-factor.invariant in
     subst (λ l. IfOk c.sum_of_gathered.result (λ v. v.items ≡ l)) sum c.sum_of_gathered.ensures.sum

@@ -12,6 +12,6 @@ invariant_of-result c =
     let m = c.args.self.now in
     let whole = subst (λ vs. length vs ≤ c.loop-row.row-index) (c.deref-row-items.ensures.value ∙ ap (λ n. n.rows) c.self.view_is) c.loop-row-test.false in
     IsMatrix-assembled (negated m) (IsMatrix-negated m (subst IsMatrix c.self.view_is c.self.invariant)) _ _ _
-    (ap (λ n. n.modulus) c.self.view_is)
+    (ap (λ n. n.ring) c.self.view_is)
     (ap (λ f. f.degrees) c.in_ok-copy.ensures.equal ∙ ap (λ n. n.target) c.self.view_is)
-    (mapped_all (λ (v : Vector). record { degree = v.degree; terms = negative m.modulus v.terms }) m.rows c.loop-row.row-index c.loop-row.rows.items whole c.loop-row.invariant)
+    (mapped_all (λ (v : Vector). record { degree = v.degree; terms = negative m.ring.modulus v.terms }) m.rows c.loop-row.row-index c.loop-row.rows.items whole c.loop-row.invariant)

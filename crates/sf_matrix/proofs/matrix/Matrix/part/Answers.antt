@@ -16,6 +16,6 @@ invariant_of-result c =
     let rows = c.deref.ensures.value ∙ ap (λ k. k.rows) c.self.view_is in
     let degrees = c.as_slice.ensures.items ∙ ap (λ k. k.target) c.self.view_is in
     IsMatrix-assembled (part r0 r1 c0 c1 m) (IsMatrix-part r0 r1 c0 c1 m (subst IsMatrix c.self.view_is c.self.invariant)) _ _ _
-    (ap (λ k. k.modulus) c.self.view_is)
+    (ap (λ k. k.ring) c.self.view_is)
     (c.in_ok-degrees.ensures.items ∙ ap (λ ds. slice_range ds c0 c1) degrees)
     (c.in_ok-rows.ensures ∙ ap (λ vs. map (vector_between c0 c1) (slice_range vs r0 r1)) rows)

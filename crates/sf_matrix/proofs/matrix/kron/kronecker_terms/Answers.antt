@@ -3,6 +3,7 @@ use Rattle.std.specs.List.{AllByRecursion}
 use Rattle.std.proofs.lemmas.Option.{slice_get_read}
 use Rattle.sf_algebra.specs.MatrixOperations.{moved}
 use Rattle.sf_algebra.specs.Multiples.{place_product, term_product}
+use Rattle.sf_algebra.specs.Rings.{ones}
 use Rattle.sf_algebra.specs.Terms.{Term}
 use Rattle.sf_algebra.specs.Vectors.{Place, place_cmp}
 use Rattle.sf_algebra.proofs.Gathering.{combination_terms-nil, combination_terms-take, combination-gathered}
@@ -38,5 +39,5 @@ loop-factor-preserved c =
 
 pub returns-clause-terms : goal.returns-clause-terms
 returns-clause-terms c =
-    let sum = combination-gathered place_cmp place_product c.args.modulus (λ k. k.monomial) (λ k. moved (k.position * c.args.columns) c.args.right.now) c.args.left.now _ _ c.loop-factor-test.false c.loop-factor.invariant in
+    let sum = combination-gathered (place_cmp ones) place_product c.args.modulus (λ k. k.monomial) (λ k. moved (k.position * c.args.columns) c.args.right.now) c.args.left.now _ _ c.loop-factor-test.false c.loop-factor.invariant in
     subst (λ l. IfOk c.sum_of_gathered.result (λ v. v.items ≡ l)) sum c.sum_of_gathered.ensures.sum

@@ -1,5 +1,6 @@
 use Rattle.std.proofs.Common.{◌<◌, sym, ap, subst, ◌∙◌}
 use Rattle.std.specs.List.{AllByRecursion}
+use Rattle.sf_algebra.specs.Rings.{ones}
 use Rattle.sf_algebra.specs.Terms.{Term, IsDescending}
 use Rattle.sf_algebra.specs.Vectors.{Place, place_cmp}
 use Rattle.sf_algebra.proofs.PartTerms.{AllByRecursion-part_terms, IsDescending-part_terms}
@@ -12,6 +13,6 @@ invariant_of-result c =
     let to = c.args.to in
     let ts = c.row.inside.terms.items in
     let terms = c.in_ok-terms.ensures ∙ ap (part_terms from to) c.deref.ensures.value in
-    let descending = IsDescending-part_terms from to ts c.row.invariant.0 in
+    let descending = IsDescending-part_terms ones from to ts c.row.invariant.0 in
     let nonzero = AllByRecursion-part_terms (λ (t : Term Place). 0 < t.coefficient) (λ (t : Term Place). 0 < t.coefficient) from to (λ t a b h. h) ts c.row.invariant.1 in
-    subst (λ us. IsDescending place_cmp us × AllByRecursion (λ (t : Term Place). 0 < t.coefficient) us) (sym terms) (descending, nonzero)
+    subst (λ us. IsDescending (place_cmp ones) us × AllByRecursion (λ (t : Term Place). 0 < t.coefficient) us) (sym terms) (descending, nonzero)

@@ -1,6 +1,5 @@
 use Rattle.std.proofs.Common.{◌<◌, sym, ◌∙◌, ap, arith}
-use Rattle.sf_algebra.specs.Monomials.{product, monomial_cmp}
-use Rattle.sf_algebra.specs.Multiples.{multiple}
+use Rattle.sf_algebra.specs.Polynomials.{polynomial_multiple}
 use Rattle.sf_algebra.proofs.Keys.{monomial_keys}
 use Rattle.sf_algebra.proofs.MultipleLaws.{multiple-zero}
 use Rattle.sf_poly.specs.Bounds.{MultipleFits}
@@ -10,11 +9,12 @@ use Rattle.sf_poly.proofs.poly.Poly.scale.Goals as goal
 
 pub returns-then-c-eq0 : goal.returns-then-c-eq0
 returns-then-c-eq0 c =
-    let positive : 0 < c.args.self.now.modulus = omega (arith, c.requires.residue) in
+    let f = c.args.self.now in
+    let positive : 0 < f.ring.modulus = omega (arith, c.requires.residue) in
     let none =
-    ap (λ n. multiple monomial_cmp product c.args.self.now.modulus (term_of c.args.a n) c.args.self.now.terms) c.if-c-eq0.true
-    ∙ multiple-zero monomial_keys c.args.self.now.modulus positive c.args.a c.args.self.now.terms in
-    record { multiple = c.zero.ensures.zero ∙ (λ i. record { modulus = (c.self.view_is i).modulus; terms = sym none i }) }
+    ap (λ n. polynomial_multiple f.ring (term_of c.args.a n) f.terms) c.if-c-eq0.true
+    ∙ multiple-zero (monomial_keys f.ring.weights) f.ring.modulus positive c.args.a f.terms in
+    record { multiple = c.zero.ensures.zero ∙ (λ i. record { ring = (c.self.view_is i).ring; terms = sym none i }) }
 
 pub multiple_of_terms-requires-clause-room : goal.multiple_of_terms-requires-clause-room
 multiple_of_terms-requires-clause-room c =
