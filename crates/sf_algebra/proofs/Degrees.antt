@@ -8,7 +8,8 @@ use Rattle.sf_algebra.specs.Multiples.{place_product, term_product, multiple, ne
 use Rattle.sf_algebra.specs.Rings.{Ring, Weights}
 use Rattle.sf_algebra.specs.Sums.{add, normal}
 use Rattle.sf_algebra.specs.Terms.{Term}
-use Rattle.sf_algebra.specs.Vectors.{Place, Vector, place_cmp, generator_degree, term_degree, IsTermOfDegree, IsHomogeneous}
+use Rattle.sf_algebra.specs.VectorOperations.{row_sum, row_multiple}
+use Rattle.sf_algebra.specs.Vectors.{Place, Vector, place_cmp, generator_degree, place_degree, IsTermOfDegree, IsHomogeneous}
 use Rattle.sf_algebra.proofs.Combinations.{factor}
 use Rattle.sf_algebra.proofs.Lists.{AllByRecursion-append}
 use Rattle.sf_algebra.proofs.Negatives.{EachPlace-negative}
@@ -32,26 +33,26 @@ IsHomogeneous-row_at weights target (v ∷ vs) h (suc i) = IsHomogeneous-row_at 
 
 module _ (target : List ℤ) where
   -- a product has the sum of the degrees
-  pub term_degree-term_product : (ring : Ring) (s : Term Monomial) (u : Term Place) → term_degree ring.weights target (term_product place_product ring.modulus s u) ≡ term_degree ring.weights target u +ℤ pos (monomial_degree ring.weights s.at)
-  term_degree-term_product ring s u = omega (arith, ints, monomial_degree-product ring.weights s.at u.at.monomial)
+  pub place_degree-term_product : (ring : Ring) (s : Term Monomial) (u : Term Place) → place_degree ring.weights target (term_product place_product ring.modulus s u).at ≡ place_degree ring.weights target u.at +ℤ pos (monomial_degree ring.weights s.at)
+  place_degree-term_product ring s u = omega (arith, ints, monomial_degree-product ring.weights s.at u.at.monomial)
 
   IsHomogeneous-term_products : (ring : Ring) (d : ℤ) (s : Term Monomial) (us : List (Term Place)) → IsHomogeneous ring.weights target d us
       → IsHomogeneous ring.weights target (d +ℤ pos (monomial_degree ring.weights s.at)) (map (term_product place_product ring.modulus s) us)
   IsHomogeneous-term_products ring d s [] h = tt
   IsHomogeneous-term_products ring d s (u ∷ us) h =
-      ((h.0.0, ap (λ e. e +ℤ pos (monomial_degree ring.weights s.at)) h.0.1 ∙ sym (term_degree-term_product ring s u)), IsHomogeneous-term_products ring d s us h.1)
+      ((h.0.0, ap (λ e. e +ℤ pos (monomial_degree ring.weights s.at)) h.0.1 ∙ sym (place_degree-term_product ring s u)), IsHomogeneous-term_products ring d s us h.1)
 
   pub IsHomogeneous-normal : (ring : Ring) (d : ℤ) (us : List (Term Place)) → IsHomogeneous ring.weights target d us → IsHomogeneous ring.weights target d (normal (place_cmp ring.weights) ring.modulus us)
   IsHomogeneous-normal ring d us h = EachPlace-normal (λ k. IsTermOfDegree ring.weights target d (record { at = k; coefficient = 0 })) (place_cmp ring.weights) ring.modulus us h
 
-  pub IsHomogeneous-add : (ring : Ring) (d : ℤ) (us vs : List (Term Place)) → IsHomogeneous ring.weights target d us → IsHomogeneous ring.weights target d vs → IsHomogeneous ring.weights target d (add (place_cmp ring.weights) ring.modulus us vs)
+  pub IsHomogeneous-add : (ring : Ring) (d : ℤ) (us vs : List (Term Place)) → IsHomogeneous ring.weights target d us → IsHomogeneous ring.weights target d vs → IsHomogeneous ring.weights target d (row_sum ring us vs)
   IsHomogeneous-add ring d us vs h k = EachPlace-add (λ k. IsTermOfDegree ring.weights target d (record { at = k; coefficient = 0 })) (place_cmp ring.weights) ring.modulus us vs h k
 
   pub IsHomogeneous-negative : (ring : Ring) (d : ℤ) (us : List (Term Place)) → IsHomogeneous ring.weights target d us → IsHomogeneous ring.weights target d (negative ring.modulus us)
   IsHomogeneous-negative ring d us h = EachPlace-negative (λ k. IsTermOfDegree ring.weights target d (record { at = k; coefficient = 0 })) ring.modulus us h
 
   pub IsHomogeneous-multiple : (ring : Ring) (d : ℤ) (s : Term Monomial) (us : List (Term Place)) → IsHomogeneous ring.weights target d us
-      → IsHomogeneous ring.weights target (d +ℤ pos (monomial_degree ring.weights s.at)) (multiple (place_cmp ring.weights) place_product ring.modulus s us)
+      → IsHomogeneous ring.weights target (d +ℤ pos (monomial_degree ring.weights s.at)) (row_multiple ring s us)
   unfolding multiple
   IsHomogeneous-multiple ring d s us h = IsHomogeneous-normal ring _ _ (IsHomogeneous-term_products ring d s us h)
 

@@ -60,7 +60,7 @@ module _ {R : Type 0} (C : PassingMaps R) where
   boundaries-cycles = BoundariesOf-within (CyclesOf C) CyclesOf-sub C.passing C.relations
 
 -- maps from three groups in a row to three others, which take relations to relations and meet the maps of the rows modulo relations
-pub record AreChainMaps {R : Type 0} (C D : PassingMaps R) (first : C.source.V → D.source.V) (second : C.middle.V → D.middle.V) (third : C.target.V → D.target.V) : Type 0 where
+pub record AreMapsOfPassingMaps {R : Type 0} (C D : PassingMaps R) (first : C.source.V → D.source.V) (second : C.middle.V → D.middle.V) (third : C.target.V → D.target.V) : Type 0 where
   pub second_map : IsMap C.middle D.middle second
   pub third_map : IsMap C.target D.target third
   pub second_relations : IsWithin C.here (PreimageOf second D.here)
@@ -69,7 +69,7 @@ pub record AreChainMaps {R : Type 0} (C D : PassingMaps R) (first : C.source.V �
   pub after : (v : C.middle.V) → Mod D.target D.beyond (third (C.leaving v)) (D.leaving (second v))
 
 module _ {R : Type 0} (C D : PassingMaps R) where
-  module _ (first : C.source.V → D.source.V) (second : C.middle.V → D.middle.V) (third : C.target.V → D.target.V) (f : AreChainMaps C D first second third) where
+  module _ (first : C.source.V → D.source.V) (second : C.middle.V → D.middle.V) (third : C.target.V → D.target.V) (f : AreMapsOfPassingMaps C D first second third) where
     pub cycles-image : IsWithin (CyclesOf C) (PreimageOf second (CyclesOf D))
     cycles-image v h =
         Mod-inside D.target D.beyond D.beyond_sub (D.leaving (second v)) (third (C.leaving v))

@@ -9,6 +9,7 @@ use Rattle.sf_algebra.specs.Multiples.{place_product, multiple, negative}
 use Rattle.sf_algebra.specs.Rings.{Ring}
 use Rattle.sf_algebra.specs.Sums.{add}
 use Rattle.sf_algebra.specs.Terms.{Term}
+use Rattle.sf_algebra.specs.VectorOperations.{row_sum, row_multiple}
 use Rattle.sf_algebra.specs.Vectors.{Place, Vector, place_cmp, generator_degree, IsHomogeneous, IsVector}
 use Rattle.sf_algebra.proofs.Degrees.{HasHomogeneousRows, IsHomogeneous-add, IsHomogeneous-multiple, IsHomogeneous-negative, IsHomogeneous-row_combination}
 use Rattle.sf_algebra.proofs.DegreeParts.{IsHomogeneous-degree_part, row_combination-degree_part}
@@ -20,14 +21,15 @@ use Rattle.sf_algebra.proofs.Negatives.{IsCanonical-negative}
 use Rattle.sf_algebra.proofs.Normal.{IsCanonical-add}
 use Rattle.sf_algebra.proofs.Orders.{place_cmp_linear}
 use Rattle.sf_algebra.proofs.RowParts.{HasCanonicalRows}
+use Rattle.sf_algebra.proofs.RowSums.{IsCanonical-row_sum}
 use Rattle.sf_algebra.proofs.Rows.{IsCanonical-row_combination}
 use Rattle.sf_algebra.proofs.UnitRows.{row_combination-unit_rows}
 
 module _ (ring : Ring) (degrees : List ℤ) where
   pub IsVector-add : 0 < ring.modulus → (d : ℤ) (us vs : List (Term Place)) → IsVector ring degrees (record { degree = d; terms = us }) → IsVector ring degrees (record { degree = d; terms = vs })
-      → IsVector ring degrees (record { degree = d; terms = add (place_cmp ring.weights) ring.modulus us vs })
+      → IsVector ring degrees (record { degree = d; terms = row_sum ring us vs })
   IsVector-add positive d us vs h k = record {
-    canonical = IsCanonical-add (place_cmp ring.weights) (place_cmp_linear ring.weights) ring.modulus positive us vs;
+    canonical = IsCanonical-row_sum ring positive us vs;
     homogeneous = IsHomogeneous-add degrees ring d us vs h.homogeneous k.homogeneous;
   }
 
@@ -38,7 +40,7 @@ module _ (ring : Ring) (degrees : List ℤ) where
   IsVector-negative d us h = record { canonical = IsCanonical-negative (place_cmp ring.weights) ring.modulus us h.canonical; homogeneous = IsHomogeneous-negative degrees ring d us h.homogeneous }
 
   pub IsVector-multiple : 0 < ring.modulus → (d : ℤ) (s : Term Monomial) (us : List (Term Place)) → IsVector ring degrees (record { degree = d; terms = us })
-      → IsVector ring degrees (record { degree = d +ℤ pos (monomial_degree ring.weights s.at); terms = multiple (place_cmp ring.weights) place_product ring.modulus s us })
+      → IsVector ring degrees (record { degree = d +ℤ pos (monomial_degree ring.weights s.at); terms = row_multiple ring s us })
   IsVector-multiple positive d s us h = record {
     canonical = IsCanonical-multiple (place_keys ring.weights) ring.modulus positive s us;
     homogeneous = IsHomogeneous-multiple degrees ring d s us h.homogeneous;

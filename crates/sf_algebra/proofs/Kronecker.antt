@@ -70,8 +70,8 @@ AllByRecursion-flat_map P f [] h = tt
 AllByRecursion-flat_map P f (x ∷ xs) h = AllByRecursion-append P (f x) (flat_map f xs) h.0 (AllByRecursion-flat_map P f xs h.1)
 
 pub IsMatrix-kronecker : (a b : Matrix) → 0 < a.ring.modulus → a.ring ≡ b.ring → IsMatrix a → IsMatrix b → IsMatrix (kronecker a b)
-IsMatrix-kronecker a b positive moduli h k =
-    let rows : AllByRecursion (IsVector a.ring b.target) b.rows = subst (λ ring. AllByRecursion (IsVector ring b.target) b.rows) (sym moduli) k in
+IsMatrix-kronecker a b positive rings h k =
+    let rows : AllByRecursion (IsVector a.ring b.target) b.rows = subst (λ ring. AllByRecursion (IsVector ring b.target) b.rows) (sym rings) k in
     AllByRecursion-flat_map _ (λ (v : Vector). kronecker_row a.ring (length b.target) v b.rows) a.rows
     (AllByRecursion-weaken _ _
     (λ v e. AllByRecursion-map _ (λ (w : Vector). record { degree = v.degree +ℤ w.degree; terms = kronecker_terms a.ring (length b.target) v.terms w.terms }) b.rows

@@ -67,25 +67,25 @@ rows-kronecker_identity a es positive h = kronecker_rows-scattered a.ring (lengt
 
 pub kronecker-factors : (a b : Matrix) → 1 < a.ring.modulus → a.ring ≡ b.ring → IsMatrix a → IsMatrix b
     → kronecker a b ≡ matrix_product (kronecker a (identity a.ring (row_degrees b))) (kronecker (identity a.ring a.target) b)
-kronecker-factors a b above moduli h k =
+kronecker-factors a b above rings h k =
     let positive : 0 < a.ring.modulus = omega arith in
-    (λ i. kronecker (sym (matrix_product-identity a positive h) i) (sym (matrix_product-identity_first b (subst (λ ring. 0 < ring.modulus) moduli positive) k) i))
-    ∙ ap (λ ring. kronecker (matrix_product a (identity a.ring a.target)) (matrix_product (identity ring (row_degrees b)) b)) (sym moduli)
+    (λ i. kronecker (sym (matrix_product-identity a positive h) i) (sym (matrix_product-identity_first b (subst (λ ring. 0 < ring.modulus) rings positive) k) i))
+    ∙ ap (λ ring. kronecker (matrix_product a (identity a.ring a.target)) (matrix_product (identity ring (row_degrees b)) b)) (sym rings)
     ∙ kronecker-matrix_product a (identity a.ring a.target) (identity a.ring (row_degrees b)) b
-    (record { positive = positive; moduli = refl; degrees = row_degrees-identity a.ring a.target })
-    (record { positive = positive; moduli = moduli; degrees = refl })
+    (record { positive = positive; rings = refl; degrees = row_degrees-identity a.ring a.target })
+    (record { positive = positive; rings = rings; degrees = refl })
     refl
     (IsMatrix-identity a.ring above (row_degrees b))
 
 -- the two factors may come in either order
 pub kronecker-factors_exchanged : (a b : Matrix) → 1 < a.ring.modulus → a.ring ≡ b.ring → IsMatrix a → IsMatrix b
     → kronecker a b ≡ matrix_product (kronecker (identity a.ring (row_degrees a)) b) (kronecker a (identity a.ring b.target))
-kronecker-factors_exchanged a b above moduli h k =
+kronecker-factors_exchanged a b above rings h k =
     let positive : 0 < a.ring.modulus = omega arith in
-    (λ i. kronecker (sym (matrix_product-identity_first a positive h) i) (sym (matrix_product-identity b (subst (λ ring. 0 < ring.modulus) moduli positive) k) i))
-    ∙ ap (λ ring. kronecker (matrix_product (identity a.ring (row_degrees a)) a) (matrix_product b (identity ring b.target))) (sym moduli)
+    (λ i. kronecker (sym (matrix_product-identity_first a positive h) i) (sym (matrix_product-identity b (subst (λ ring. 0 < ring.modulus) rings positive) k) i))
+    ∙ ap (λ ring. kronecker (matrix_product (identity a.ring (row_degrees a)) a) (matrix_product b (identity ring b.target))) (sym rings)
     ∙ kronecker-matrix_product (identity a.ring (row_degrees a)) a b (identity a.ring b.target)
-    (record { positive = positive; moduli = refl; degrees = refl })
-    (record { positive = subst (λ ring. 0 < ring.modulus) moduli positive; moduli = sym moduli; degrees = row_degrees-identity a.ring b.target })
-    moduli
+    (record { positive = positive; rings = refl; degrees = refl })
+    (record { positive = subst (λ ring. 0 < ring.modulus) rings positive; rings = sym rings; degrees = row_degrees-identity a.ring b.target })
+    rings
     k

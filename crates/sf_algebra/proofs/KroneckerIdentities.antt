@@ -8,7 +8,7 @@ use Rattle.sf_algebra.specs.MatrixOperations.{row_at, unit_vector, unit_rows, id
 use Rattle.sf_algebra.specs.Polynomials.{polynomial_product}
 use Rattle.sf_algebra.specs.Rings.{Ring}
 use Rattle.sf_algebra.specs.Terms.{IsCanonical}
-use Rattle.sf_algebra.specs.Vectors.{place_cmp, entry}
+use Rattle.sf_algebra.specs.Vectors.{place_cmp, entry, IsCanonicalRow}
 use Rattle.sf_algebra.proofs.Identities.{IsMatrix-identity, length-unit_rows, unit_rows-append}
 use Rattle.sf_algebra.proofs.Kronecker.{kronecker_row, row_at-kronecker}
 use Rattle.sf_algebra.proofs.KroneckerProducts.{kronecker_rows}
@@ -41,7 +41,7 @@ row_at-kronecker_identity a es positive h i k inside =
     ∙ kronecker_terms-unit a.ring (length es) positive k (omega arith) (row_at a.rows i) (IsCanonical-matrix_row a.ring a.target a.rows h i)
 
 module _ (ring : Ring) (above : 1 < ring.modulus) where
-  IsCanonical-unit : (k : ℕ) → IsCanonical (place_cmp ring.weights) ring.modulus (unit_term k ∷ [])
+  IsCanonical-unit : (k : ℕ) → IsCanonicalRow ring (unit_term k ∷ [])
   IsCanonical-unit k = record { descending = (tt, tt); residues = ((omega arith, above), tt) }
 
   kronecker_row-unit : (n : ℕ) (d : ℤ) (i k m : ℕ) (es : List ℤ) → m ≡ i * n + k → kronecker_row ring n (unit_vector d i) (unit_rows k es) ≡ unit_rows m (map (λ e. d +ℤ e) es)

@@ -66,13 +66,13 @@ kronecker_rows-with_terms ring n m f g h (u ∷ us) vs same =
 
 pub kronecker-matrix_product : (a b c d : Matrix) → IsComposable a b → IsComposable c d → a.ring ≡ c.ring → IsMatrix c
     → kronecker (matrix_product a b) (matrix_product c d) ≡ matrix_product (kronecker a c) (kronecker b d)
-kronecker-matrix_product a b c d ab cd moduli is_matrix =
+kronecker-matrix_product a b c d ab cd rings is_matrix =
     let ring = a.ring in
     let n = length d.target in
-    let rows = ap (λ q. kronecker_rows ring n (with_terms (row_combination ring b.rows) a.rows) (with_terms (row_combination q d.rows) c.rows)) (sym moduli)
+    let rows = ap (λ q. kronecker_rows ring n (with_terms (row_combination ring b.rows) a.rows) (with_terms (row_combination q d.rows) c.rows)) (sym rings)
     ∙ kronecker_rows-with_terms ring n (length c.target) (row_combination ring b.rows) (row_combination ring d.rows) (row_combination ring (kronecker_rows ring n b.rows d.rows)) a.rows c.rows
     (AllByRecursion-always _ (λ u. AllByRecursion-weaken _ _ (λ v k. row u.terms v.terms (AllByRecursion-weaken _ _ (λ t e. e.0) v.terms k.homogeneous)) c.rows is_matrix) a.rows)
-    ∙ ap (λ q. with_terms (row_combination ring (kronecker_rows q n b.rows d.rows)) (kronecker_rows ring (length c.target) a.rows c.rows)) ab.moduli in
+    ∙ ap (λ q. with_terms (row_combination ring (kronecker_rows q n b.rows d.rows)) (kronecker_rows ring (length c.target) a.rows c.rows)) ab.rings in
     λ i. record { ring = ring; target = degree_sums b.target d.target; rows = rows i }
   where
     size : length d.rows ≡ length c.target

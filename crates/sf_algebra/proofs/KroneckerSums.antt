@@ -7,7 +7,7 @@ use Rattle.sf_algebra.specs.MatrixOperations.{identity, negated, stacked, moved,
 use Rattle.sf_algebra.specs.Multiples.{place_product, negative_term, negative, combination}
 use Rattle.sf_algebra.specs.Rings.{Ring}
 use Rattle.sf_algebra.specs.Terms.{Term, IsCanonical}
-use Rattle.sf_algebra.specs.Vectors.{Place, Vector, place_cmp}
+use Rattle.sf_algebra.specs.Vectors.{Place, Vector, place_cmp, IsCanonicalRow}
 use Rattle.sf_algebra.proofs.Associativity.{combination-negative, combination-negative_rows}
 use Rattle.sf_algebra.proofs.Columns.{AllByRecursion-always}
 use Rattle.sf_algebra.proofs.Keys.{place_keys}
@@ -23,10 +23,10 @@ use Rattle.sf_algebra.proofs.Stacks.{with_terms-same}
 
 -- the first matrix a stack
 pub kronecker-stacked : (a b c : Matrix) → a.ring ≡ b.ring → kronecker (stacked a b) c ≡ stacked (kronecker a c) (kronecker b c)
-kronecker-stacked a b c moduli =
+kronecker-stacked a b c rings =
     let n = length c.target in
     let rows = flat_map-append (λ (v : Vector). kronecker_row a.ring n v c.rows) a.rows b.rows
-    ∙ ap (λ ring. kronecker_rows a.ring n a.rows c.rows ++ kronecker_rows ring n b.rows c.rows) moduli in
+    ∙ ap (λ ring. kronecker_rows a.ring n a.rows c.rows ++ kronecker_rows ring n b.rows c.rows) rings in
     λ i. record { ring = a.ring; target = degree_sums a.target c.target; rows = rows i }
 
 moved-negative : (p by : ℕ) (ts : List (Term Place)) → moved by (negative p ts) ≡ negative p (moved by ts)
@@ -34,10 +34,10 @@ moved-negative p by [] = refl
 moved-negative p by (t ∷ ts) = ap (λ us. negative_term p (moved_term by t) ∷ us) (moved-negative p by ts)
 
 module _ (ring : Ring) (n : ℕ) (positive : 0 < ring.modulus) where
-  pub kronecker_terms-negative_first : (v w : List (Term Place)) → IsCanonical (place_cmp ring.weights) ring.modulus v → kronecker_terms ring n (negative ring.modulus v) w ≡ negative ring.modulus (kronecker_terms ring n v w)
+  pub kronecker_terms-negative_first : (v w : List (Term Place)) → IsCanonicalRow ring v → kronecker_terms ring n (negative ring.modulus v) w ≡ negative ring.modulus (kronecker_terms ring n v w)
   kronecker_terms-negative_first v w h = combination-negative (place_keys ring.weights) (place_keys ring.weights) ring.modulus positive (λ k. k.monomial) (λ k. moved (k.position * n) w) (position_rows ring.weights (λ i. moved (i * n) w)) v h
 
-  pub kronecker_terms-negative : (v w : List (Term Place)) → IsCanonical (place_cmp ring.weights) ring.modulus w → kronecker_terms ring n v (negative ring.modulus w) ≡ negative ring.modulus (kronecker_terms ring n v w)
+  pub kronecker_terms-negative : (v w : List (Term Place)) → IsCanonicalRow ring w → kronecker_terms ring n v (negative ring.modulus w) ≡ negative ring.modulus (kronecker_terms ring n v w)
   kronecker_terms-negative v w h =
       (λ i. combination (place_cmp ring.weights) place_product ring.modulus (λ (k : Place). k.monomial) (λ (k : Place). moved-negative ring.modulus (k.position * n) w i) v)
       ∙ combination-negative_rows (place_keys ring.weights) ring.modulus positive (λ k. k.monomial) (λ k. moved (k.position * n) w) v (λ k. IsCanonical-moved ring (k.position * n) w h)
@@ -57,13 +57,13 @@ kronecker-negated_first a b positive h =
 
 -- and of the second
 pub kronecker-negated : (a b : Matrix) → 0 < a.ring.modulus → a.ring ≡ b.ring → IsMatrix b → kronecker a (negated b) ≡ negated (kronecker a b)
-kronecker-negated a b positive moduli h =
+kronecker-negated a b positive rings h =
     let ring = a.ring in
     let n = length b.target in
     let rows = ap (λ vs. kronecker_rows ring n vs (with_terms (negative b.ring.modulus) b.rows)) (sym (kept a.rows))
-    ∙ ap (λ q. kronecker_rows ring n (with_terms (λ ts. ts) a.rows) (with_terms (negative q.modulus) b.rows)) (sym moduli)
+    ∙ ap (λ q. kronecker_rows ring n (with_terms (λ ts. ts) a.rows) (with_terms (negative q.modulus) b.rows)) (sym rings)
     ∙ kronecker_rows-with_terms ring n n (λ ts. ts) (negative ring.modulus) (negative ring.modulus) a.rows b.rows
-    (AllByRecursion-always _ (λ u. AllByRecursion-weaken _ _ (λ v k. kronecker_terms-negative ring n positive u.terms v.terms (subst (λ q. IsCanonical (place_cmp q.weights) q.modulus v.terms) (sym moduli) k.canonical)) b.rows h) a.rows) in
+    (AllByRecursion-always _ (λ u. AllByRecursion-weaken _ _ (λ v k. kronecker_terms-negative ring n positive u.terms v.terms (subst (λ q. IsCanonicalRow q v.terms) (sym rings) k.canonical)) b.rows h) a.rows) in
     λ i. record { ring = ring; target = degree_sums a.target b.target; rows = rows i }
 
 zero-plus : (d : ℤ) → pos 0 +ℤ d ≡ d

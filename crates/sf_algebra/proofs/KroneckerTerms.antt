@@ -6,7 +6,7 @@ use Rattle.sf_algebra.specs.Multiples.{place_product, term_product, combination}
 use Rattle.sf_algebra.specs.Rings.{Ring}
 use Rattle.sf_algebra.specs.Sums.{total}
 use Rattle.sf_algebra.specs.Terms.{Term, IsCanonical}
-use Rattle.sf_algebra.specs.Vectors.{Place, place_cmp}
+use Rattle.sf_algebra.specs.Vectors.{Place, place_cmp, IsCanonicalRow}
 use Rattle.sf_algebra.proofs.Associativity.{combination_combination}
 use Rattle.sf_algebra.proofs.CombinationLaws.{combination-nil, combination-same}
 use Rattle.sf_algebra.proofs.Combinations.{IsCanonical-combination, factor, total-combination}
@@ -33,7 +33,7 @@ moved_term-additive p by g additive = record {
 }
 
 module _ (ring : Ring) (n : ℕ) (positive : 0 < ring.modulus) where
-  pub IsCanonical-kronecker_terms : (v w : List (Term Place)) → IsCanonical (place_cmp ring.weights) ring.modulus (kronecker_terms ring n v w)
+  pub IsCanonical-kronecker_terms : (v w : List (Term Place)) → IsCanonicalRow ring (kronecker_terms ring n v w)
   IsCanonical-kronecker_terms v w = IsCanonical-combination (place_keys ring.weights) ring.modulus (λ k. k.monomial) (λ k. moved (k.position * n) w) positive v
 
   pub kronecker_terms-nil_first : (w : List (Term Place)) → kronecker_terms ring n [] w ≡ []

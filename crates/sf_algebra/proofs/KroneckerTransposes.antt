@@ -43,7 +43,7 @@ no_columns a b i j h none =
     let size : length (degree_sums a.target b.target) ≡ 0 = length-degree_sums a.target b.target ∙ ap (λ n. length a.target * n) none ∙ mul-zero (length a.target) in
     entry-outside _ (row_at (kronecker a b).rows i) j (IsWithin-matrix_row a.ring (degree_sums a.target b.target) (kronecker a b).rows h i) (omega arith)
 
-module _ (a b : Matrix) (positive : 0 < a.ring.modulus) (moduli : a.ring ≡ b.ring) (h : IsMatrix a) (k : IsMatrix b) where
+module _ (a b : Matrix) (positive : 0 < a.ring.modulus) (rings : a.ring ≡ b.ring) (h : IsMatrix a) (k : IsMatrix b) where
   columns : length (transposed b).rows ≡ length b.target
   columns = length-column_rows b.rows 0 b.target
 
@@ -70,20 +70,20 @@ module _ (a b : Matrix) (positive : 0 < a.ring.modulus) (moduli : a.ring ≡ b.r
               (subst (λ q. entry (n / length b.target * length b.target + n % length b.target) (row_at (kronecker a b).rows q) ≡ entry q (row_at (kronecker (transposed a) (transposed b)).rows (n / length b.target * length b.target + n % length b.target))) (div-add-mod' m (length b.rows))
               (pairs (m / length b.rows) (m % length b.rows) (n / length b.target) (n % length b.target) (mod-lt m some_rows) (mod-lt n some_columns)))
           | inr none ↦
-              no_columns a b m n (IsMatrix-kronecker a b positive moduli h k) (omega arith)
+              no_columns a b m n (IsMatrix-kronecker a b positive rings h k) (omega arith)
               ∙ sym (no_rows (transposed a) (transposed b) n m (columns ∙ omega arith))
         ]
         | inr none ↦
             no_rows a b m n (omega arith)
-            ∙ sym (no_columns (transposed a) (transposed b) n m (IsMatrix-kronecker (transposed a) (transposed b) positive moduli ta tb) (rows ∙ omega arith))
+            ∙ sym (no_columns (transposed a) (transposed b) n m (IsMatrix-kronecker (transposed a) (transposed b) positive rings ta tb) (rows ∙ omega arith))
       ]
 
   pub transposed-kronecker : transposed (kronecker a b) ≡ kronecker (transposed a) (transposed b)
   transposed-kronecker =
-      let ab = IsMatrix-kronecker a b positive moduli h k in
+      let ab = IsMatrix-kronecker a b positive rings h k in
       same_matrices (transposed (kronecker a b)) (kronecker (transposed a) (transposed b))
       (IsMatrix-transposed (kronecker a b) ab)
-      (IsMatrix-kronecker (transposed a) (transposed b) positive moduli (IsMatrix-transposed a h) (IsMatrix-transposed b k))
+      (IsMatrix-kronecker (transposed a) (transposed b) positive rings (IsMatrix-transposed a h) (IsMatrix-transposed b k))
       refl
       (ap (map neg_ℤ) (row_degrees-kronecker a b) ∙ degree_sums-neg (row_degrees a) (row_degrees b))
       (row_degrees-transposed (kronecker a b)

@@ -9,7 +9,7 @@ use Rattle.sf_algebra.specs.Residues.{sum_mod}
 use Rattle.sf_algebra.specs.Rings.{Ring, Weights}
 use Rattle.sf_algebra.specs.Sums.{total}
 use Rattle.sf_algebra.specs.Terms.{Term, IsDescending, IsNonzeroResidue, IsCanonical}
-use Rattle.sf_algebra.specs.Vectors.{Place, Vector, place_cmp, generator_degree, IsVector}
+use Rattle.sf_algebra.specs.Vectors.{Place, Vector, place_cmp, generator_degree, IsVector, IsCanonicalRow}
 use Rattle.sf_algebra.proofs.Coefficients.{same_from_total}
 use Rattle.sf_algebra.proofs.CombinationLaws.{combination-one}
 use Rattle.sf_algebra.proofs.DoubleTotals.{total-map, total-same}
@@ -36,7 +36,7 @@ IsDescending-moved weights by (t ∷ ts) h = (
   IsDescending-moved weights by ts h.1,
 )
 
-pub IsCanonical-moved : (ring : Ring) (by : ℕ) (ts : List (Term Place)) → IsCanonical (place_cmp ring.weights) ring.modulus ts → IsCanonical (place_cmp ring.weights) ring.modulus (moved by ts)
+pub IsCanonical-moved : (ring : Ring) (by : ℕ) (ts : List (Term Place)) → IsCanonicalRow ring ts → IsCanonicalRow ring (moved by ts)
 IsCanonical-moved ring by ts h = record { descending = IsDescending-moved ring.weights by ts h.descending; residues = AllByRecursion-map (IsNonzeroResidue ring.modulus) (moved_term by) ts h.residues }
 
 -- terms at each n-th position, from k on
@@ -63,7 +63,7 @@ IsDescending-scattered weights n k positive (t ∷ ts) h = (
   IsDescending-scattered weights n k positive ts h.1,
 )
 
-pub IsCanonical-scattered : (ring : Ring) (n k : ℕ) → 0 < n → (ts : List (Term Place)) → IsCanonical (place_cmp ring.weights) ring.modulus ts → IsCanonical (place_cmp ring.weights) ring.modulus (scattered n k ts)
+pub IsCanonical-scattered : (ring : Ring) (n k : ℕ) → 0 < n → (ts : List (Term Place)) → IsCanonicalRow ring ts → IsCanonicalRow ring (scattered n k ts)
 IsCanonical-scattered ring n k positive ts h = record {
   descending = IsDescending-scattered ring.weights n k positive ts h.descending;
   residues = AllByRecursion-map (IsNonzeroResidue ring.modulus) (λ (t : Term Place). record { at = record { position = t.at.position * n + k; monomial = t.at.monomial }; coefficient = t.coefficient }) ts h.residues;
@@ -71,13 +71,13 @@ IsCanonical-scattered ring n k positive ts h = record {
 
 module _ (ring : Ring) (n : ℕ) (positive : 0 < ring.modulus) where
   -- a unit vector before a vector moves it
-  pub kronecker_terms-unit_first : (i : ℕ) (w : List (Term Place)) → IsCanonical (place_cmp ring.weights) ring.modulus w → kronecker_terms ring n (unit_term i ∷ []) w ≡ moved (i * n) w
+  pub kronecker_terms-unit_first : (i : ℕ) (w : List (Term Place)) → IsCanonicalRow ring w → kronecker_terms ring n (unit_term i ∷ []) w ≡ moved (i * n) w
   kronecker_terms-unit_first i w h =
       combination-one (place_keys ring.weights) ring.modulus positive (λ k. k.monomial) (λ k. moved (k.position * n) w) (unit_term i)
       ∙ multiple-one (place_keys ring.weights) ring.modulus positive (moved (i * n) w) (IsCanonical-moved ring (i * n) w h)
 
   -- a unit vector behind a vector scatters it
-  pub kronecker_terms-unit : (k : ℕ) → 0 < n → (v : List (Term Place)) → IsCanonical (place_cmp ring.weights) ring.modulus v → kronecker_terms ring n v (unit_term k ∷ []) ≡ scattered n k v
+  pub kronecker_terms-unit : (k : ℕ) → 0 < n → (v : List (Term Place)) → IsCanonicalRow ring v → kronecker_terms ring n v (unit_term k ∷ []) ≡ scattered n k v
   kronecker_terms-unit k some v h =
       same_from_total (place_cmp ring.weights) (place_cmp_linear ring.weights) ring.modulus positive _ _ (IsCanonical-kronecker_terms ring n positive v (unit_term k ∷ [])) (IsCanonical-scattered ring n k some v h)
       (λ g additive.

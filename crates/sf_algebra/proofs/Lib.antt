@@ -57,6 +57,7 @@ pub mod Coefficients
 pub mod Canonical
 pub mod Gathering
 pub mod Sums
+pub mod RowSums
 pub mod Keys
 pub mod Multiples
 pub mod MultipleLaws

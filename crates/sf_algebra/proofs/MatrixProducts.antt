@@ -14,7 +14,7 @@ row_degrees-matrix_product a b = degrees-with_terms (row_combination a.ring b.ro
 
 pub IsMatrix-matrix_product : (a b : Matrix) → IsComposable a b → IsMatrix a → IsMatrix b → IsMatrix (matrix_product a b)
 IsMatrix-matrix_product a b c h k =
-    let rows : AllByRecursion (IsVector a.ring b.target) b.rows = subst (λ ring. AllByRecursion (IsVector ring b.target) b.rows) (sym c.moduli) k in
+    let rows : AllByRecursion (IsVector a.ring b.target) b.rows = subst (λ ring. AllByRecursion (IsVector ring b.target) b.rows) (sym c.rings) k in
     AllByRecursion-map (IsVector a.ring b.target) (λ (v : Vector). record { degree = v.degree; terms = row_combination a.ring b.rows v.terms }) a.rows
     (AllByRecursion-weaken _ _
     (λ v e. IsVector-row_combination (record { ring = a.ring; target = b.target; rows = b.rows }) c.positive rows v (subst (λ ds. IsVector a.ring ds v) (sym c.degrees) e))

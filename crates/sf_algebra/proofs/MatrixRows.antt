@@ -5,7 +5,7 @@ use Rattle.sf_algebra.specs.Matrices.{Matrix, row_degrees, IsMatrix}
 use Rattle.sf_algebra.specs.MatrixOperations.{row_at}
 use Rattle.sf_algebra.specs.Rings.{Ring}
 use Rattle.sf_algebra.specs.Terms.{Term, IsCanonical, IsDescending}
-use Rattle.sf_algebra.specs.Vectors.{Place, Vector, place_cmp, entry, IsVector}
+use Rattle.sf_algebra.specs.Vectors.{Place, Vector, place_cmp, entry, IsVector, IsCanonicalRow}
 use Rattle.sf_algebra.proofs.Lists.{AllByRecursion-weaken}
 use Rattle.sf_algebra.proofs.RowParts.{IsCanonical-row_at}
 use Rattle.sf_algebra.proofs.Positions.{same_from_entries}
@@ -37,7 +37,7 @@ row_at-each P none (v ∷ vs) h zero = h.0
 row_at-each P none (v ∷ vs) h (suc i) = row_at-each P none vs h.1 i
 
 module _ (ring : Ring) (degrees : List ℤ) (vs : List Vector) (h : AllByRecursion (IsVector ring degrees) vs) where
-  pub IsCanonical-matrix_row : (i : ℕ) → IsCanonical (place_cmp ring.weights) ring.modulus (row_at vs i)
+  pub IsCanonical-matrix_row : (i : ℕ) → IsCanonicalRow ring (row_at vs i)
   IsCanonical-matrix_row = IsCanonical-row_at ring vs (AllByRecursion-weaken _ _ (λ v k. k.canonical) vs h)
 
   pub IsWithin-matrix_row : (i : ℕ) → IsWithin (length degrees) (row_at vs i)
@@ -56,9 +56,9 @@ same_rows (u ∷ us) (v ∷ vs) degrees same =
 
 -- matrices with equal entries, and equal degrees, are equal
 pub same_matrices : (a b : Matrix) → IsMatrix a → IsMatrix b → a.ring ≡ b.ring → a.target ≡ b.target → row_degrees a ≡ row_degrees b → ((i j : ℕ) → entry j (row_at a.rows i) ≡ entry j (row_at b.rows i)) → a ≡ b
-same_matrices a b h k moduli targets degrees same =
+same_matrices a b h k rings targets degrees same =
     let rows : a.rows ≡ b.rows = same_rows a.rows b.rows degrees (λ i. same_from_entries a.ring.weights _ _
     (IsCanonical-matrix_row a.ring a.target a.rows h i).descending
-    (subst (λ (q : Ring). IsDescending (place_cmp q.weights) (row_at b.rows i)) (sym moduli) (IsCanonical-matrix_row b.ring b.target b.rows k i).descending)
+    (subst (λ (q : Ring). IsDescending (place_cmp q.weights) (row_at b.rows i)) (sym rings) (IsCanonical-matrix_row b.ring b.target b.rows k i).descending)
     (same i)) in
-    λ i. record { ring = moduli i; target = targets i; rows = rows i }
+    λ i. record { ring = rings i; target = targets i; rows = rows i }

@@ -13,7 +13,7 @@ use Rattle.sf_algebra.specs.MatrixOperations.{part_terms}
 use Rattle.sf_algebra.specs.Monomials.{monomial_cmp, monomial_degree}
 use Rattle.sf_algebra.specs.Rings.{Ring, Weights}
 use Rattle.sf_algebra.specs.Terms.{Term, IsDescending, IsNonzeroResidue, IsCanonical}
-use Rattle.sf_algebra.specs.Vectors.{Place, Vector, place_cmp, entry, generator_degree, IsTermOfDegree, IsVector}
+use Rattle.sf_algebra.specs.Vectors.{Place, Vector, place_cmp, entry, generator_degree, IsTermOfDegree, IsVector, IsCanonicalRow}
 use Rattle.sf_algebra.proofs.Columns.{AllByRecursion-always}
 use Rattle.sf_algebra.proofs.Entries.{without_position, entry-here, entry-elsewhere}
 use Rattle.sf_algebra.proofs.MatrixRows.{IsWithin}
@@ -119,7 +119,7 @@ IsDescending-part_terms weights from to (t ∷ ts) h =
       | inr outside ↦ subst (IsDescending (place_cmp weights)) (sym (part_terms-outside from to t ts outside)) others
     ]
 
-pub IsCanonical-part_terms : (ring : Ring) (from to : ℕ) (ts : List (Term Place)) → IsCanonical (place_cmp ring.weights) ring.modulus ts → IsCanonical (place_cmp ring.weights) ring.modulus (part_terms from to ts)
+pub IsCanonical-part_terms : (ring : Ring) (from to : ℕ) (ts : List (Term Place)) → IsCanonicalRow ring ts → IsCanonicalRow ring (part_terms from to ts)
 IsCanonical-part_terms ring from to ts h = record {
   descending = IsDescending-part_terms ring.weights from to ts h.descending;
   residues = AllByRecursion-part_terms (IsNonzeroResidue ring.modulus) (IsNonzeroResidue ring.modulus) from to (λ t reached within k. k) ts h.residues;

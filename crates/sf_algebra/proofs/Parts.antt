@@ -6,7 +6,7 @@ use Rattle.sf_algebra.specs.Matrices.{Matrix, row_degrees, IsMatrix}
 use Rattle.sf_algebra.specs.MatrixOperations.{row_at, part, part_terms, stacked, transposed}
 use Rattle.sf_algebra.specs.Rings.{Ring}
 use Rattle.sf_algebra.specs.Terms.{Term, IsCanonical}
-use Rattle.sf_algebra.specs.Vectors.{Place, Vector, place_cmp, entry, IsVector}
+use Rattle.sf_algebra.specs.Vectors.{Place, Vector, place_cmp, entry, IsVector, IsCanonicalRow}
 use Rattle.sf_algebra.proofs.Lists.{AllByRecursion-weaken}
 use Rattle.sf_algebra.proofs.MatrixRows.{with_terms, row_at-drop, row_at-take, same_matrices}
 use Rattle.sf_algebra.proofs.PartTerms.{entry-part_terms, IsWithin-part_terms, part_terms-whole, IsCanonical-part_terms, IsVector-part_terms}
@@ -55,7 +55,7 @@ part-whole m h =
     λ i. record { ring = m.ring; target = slice_range-whole m.target n (omega arith) i; rows = rows i }
 
 -- the terms in a range of a range
-pub part_terms-part_terms : (ring : Ring) (from to a b : ℕ) (ts : List (Term Place)) → from + b ≤ to → IsCanonical (place_cmp ring.weights) ring.modulus ts → part_terms a b (part_terms from to ts) ≡ part_terms (from + a) (from + b) ts
+pub part_terms-part_terms : (ring : Ring) (from to a b : ℕ) (ts : List (Term Place)) → from + b ≤ to → IsCanonicalRow ring ts → part_terms a b (part_terms from to ts) ≡ part_terms (from + a) (from + b) ts
 part_terms-part_terms ring from to a b ts inside h =
     same_from_entries ring.weights _ _ (IsCanonical-part_terms ring a b _ (IsCanonical-part_terms ring from to ts h)).descending (IsCanonical-part_terms ring (from + a) (from + b) ts h).descending
     (λ j. elim (cases_lt (a + j) b) [
@@ -91,9 +91,9 @@ part-stacked_first a b h =
     ∙ part-whole a h
 
 pub part-stacked_second : (a b : Matrix) → a.ring ≡ b.ring → a.target ≡ b.target → IsMatrix b → part (length a.rows) (length a.rows + length b.rows) 0 (length b.target) (stacked a b) ≡ b
-part-stacked_second a b moduli targets h =
+part-stacked_second a b rings targets h =
     (λ i. record {
-      ring = moduli i;
+      ring = rings i;
       target = slice_range (targets i) 0 (length b.target);
       rows = with_terms (part_terms 0 (length b.target)) ((slice_range-second a.rows b.rows (length a.rows) (length a.rows + length b.rows) refl (omega arith) ∙ sym (slice_range-whole b.rows (length b.rows) (omega arith))) i);
     })

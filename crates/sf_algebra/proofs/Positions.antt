@@ -10,7 +10,7 @@ use Rattle.sf_algebra.specs.MatrixOperations.{at_position}
 use Rattle.sf_algebra.specs.Monomials.{Monomial, monomial_cmp}
 use Rattle.sf_algebra.specs.Rings.{Ring, Weights}
 use Rattle.sf_algebra.specs.Terms.{Term, IsDescending, IsNonzeroResidue, IsCanonical}
-use Rattle.sf_algebra.specs.Vectors.{Place, place_cmp, entry}
+use Rattle.sf_algebra.specs.Vectors.{Place, place_cmp, entry, IsCanonicalRow}
 use Rattle.sf_algebra.proofs.Entries.{without_position, entry-here, entry-elsewhere, entry-past, IsDescending-positions}
 use Rattle.sf_algebra.proofs.Lists.{AllByRecursion-weaken}
 
@@ -81,7 +81,7 @@ IsDescending-at_position weights i (e ∷ es) h = (
 )
 
 -- an entry of a canonical list is canonical
-pub IsCanonical-entry : (ring : Ring) (j : ℕ) (ts : List (Term Place)) → IsCanonical (place_cmp ring.weights) ring.modulus ts → IsCanonical (monomial_cmp ring.weights) ring.modulus (entry j ts)
+pub IsCanonical-entry : (ring : Ring) (j : ℕ) (ts : List (Term Place)) → IsCanonicalRow ring ts → IsCanonical (monomial_cmp ring.weights) ring.modulus (entry j ts)
 IsCanonical-entry ring j ts h = record { descending = IsDescending-entry ring.weights j ts h.descending; residues = AllByRecursion-entry (IsNonzeroResidue ring.modulus) j ts h.residues }
 
 -- a list whose first term stands before all terms of another has not the other's entries

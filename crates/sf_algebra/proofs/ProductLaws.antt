@@ -46,19 +46,19 @@ matrix_product-identity m positive h =
     λ i. record { ring = m.ring; target = m.target; rows = rows i }
 
 pub matrix_product-assoc : (a b c : Matrix) → 0 < a.ring.modulus → a.ring ≡ b.ring → matrix_product (matrix_product a b) c ≡ matrix_product a (matrix_product b c)
-matrix_product-assoc a b c positive moduli =
+matrix_product-assoc a b c positive rings =
     let ring = a.ring in
     let rows = with_terms-with_terms (row_combination ring c.rows) (row_combination ring b.rows) a.rows
     ∙ with_terms-each (λ ts. row_combination ring c.rows (row_combination ring b.rows ts)) (row_combination ring (matrix_product b c).rows) a.rows
-    (AllByRecursion-always _ (λ v. sym (row_combination-matrix_product ring positive b c v.terms (sym moduli))) a.rows) in
+    (AllByRecursion-always _ (λ v. sym (row_combination-matrix_product ring positive b c v.terms (sym rings))) a.rows) in
     λ i. record { ring = ring; target = c.target; rows = rows i }
 
 -- the rows of a stack are multiplied one by one
 pub matrix_product-stacked : (a b n : Matrix) → a.ring ≡ b.ring → matrix_product (stacked a b) n ≡ stacked (matrix_product a n) (matrix_product b n)
-matrix_product-stacked a b n moduli =
+matrix_product-stacked a b n rings =
     let ring = a.ring in
     let rows = map-append (λ (v : Vector). record { degree = v.degree; terms = row_combination ring n.rows v.terms }) a.rows b.rows
-    ∙ ap (λ q. with_terms (row_combination ring n.rows) a.rows ++ with_terms (row_combination q n.rows) b.rows) moduli in
+    ∙ ap (λ q. with_terms (row_combination ring n.rows) a.rows ++ with_terms (row_combination q n.rows) b.rows) rings in
     λ i. record { ring = ring; target = n.target; rows = rows i }
 
 -- a factor's negative gives the product's
@@ -72,12 +72,12 @@ matrix_product-negated_first a b positive h =
     λ i. record { ring = ring; target = b.target; rows = rows i }
 
 pub matrix_product-negated : (a b : Matrix) → 0 < a.ring.modulus → a.ring ≡ b.ring → IsMatrix b → matrix_product a (negated b) ≡ negated (matrix_product a b)
-matrix_product-negated a b positive moduli h =
+matrix_product-negated a b positive rings h =
     let ring = a.ring in
     let rows = with_terms-each (row_combination ring (negated b).rows) (λ ts. negative ring.modulus (row_combination ring b.rows ts)) a.rows
-    (AllByRecursion-always _ (λ v. subst (λ q. row_combination q (negated b).rows v.terms ≡ negative q.modulus (row_combination q b.rows v.terms)) (sym moduli) (row v.terms)) a.rows)
+    (AllByRecursion-always _ (λ v. subst (λ q. row_combination q (negated b).rows v.terms ≡ negative q.modulus (row_combination q b.rows v.terms)) (sym rings) (row v.terms)) a.rows)
     ∙ sym (with_terms-with_terms (negative ring.modulus) (row_combination ring b.rows) a.rows) in
     λ i. record { ring = ring; target = b.target; rows = rows i }
   where
     row : (v : List (Term Place)) → row_combination b.ring (negated b).rows v ≡ negative b.ring.modulus (row_combination b.ring b.rows v)
-    row v = row_combination-negated b (subst (λ (q : Ring). 0 < q.modulus) moduli positive) (AllByRecursion-weaken _ _ (λ v k. k.canonical) b.rows h) v
+    row v = row_combination-negated b (subst (λ (q : Ring). 0 < q.modulus) rings positive) (AllByRecursion-weaken _ _ (λ v k. k.canonical) b.rows h) v

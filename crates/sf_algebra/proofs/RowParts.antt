@@ -6,16 +6,16 @@ use Rattle.sf_algebra.specs.MatrixOperations.{row_at, row_combination, negated}
 use Rattle.sf_algebra.specs.Multiples.{place_product, combination, negative}
 use Rattle.sf_algebra.specs.Rings.{Ring}
 use Rattle.sf_algebra.specs.Terms.{Term, IsCanonical}
-use Rattle.sf_algebra.specs.Vectors.{Place, Vector, place_cmp}
+use Rattle.sf_algebra.specs.Vectors.{Place, Vector, place_cmp, IsCanonicalRow}
 use Rattle.sf_algebra.proofs.Associativity.{combination-negative_rows}
 use Rattle.sf_algebra.proofs.Keys.{place_keys}
 use Rattle.sf_algebra.proofs.Rows.{row_at-map}
 
 -- the rows are canonical
 abbrev pub HasCanonicalRows : Ring → List Vector → Type 0
-HasCanonicalRows ring = AllByRecursion (λ (v : Vector). IsCanonical (place_cmp ring.weights) ring.modulus v.terms)
+HasCanonicalRows ring = AllByRecursion (λ (v : Vector). IsCanonicalRow ring v.terms)
 
-pub IsCanonical-row_at : (ring : Ring) (rows : List Vector) → HasCanonicalRows ring rows → (i : ℕ) → IsCanonical (place_cmp ring.weights) ring.modulus (row_at rows i)
+pub IsCanonical-row_at : (ring : Ring) (rows : List Vector) → HasCanonicalRows ring rows → (i : ℕ) → IsCanonicalRow ring (row_at rows i)
 IsCanonical-row_at ring [] h i = record { descending = tt; residues = tt }
 IsCanonical-row_at ring (v ∷ vs) h zero = h.0
 IsCanonical-row_at ring (v ∷ vs) h (suc i) = IsCanonical-row_at ring vs h.1 i

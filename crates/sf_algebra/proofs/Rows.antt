@@ -7,7 +7,8 @@ use Rattle.sf_algebra.specs.Multiples.{place_product, multiple, negative, combin
 use Rattle.sf_algebra.specs.Rings.{Ring, Weights}
 use Rattle.sf_algebra.specs.Sums.{add}
 use Rattle.sf_algebra.specs.Terms.{Term, IsCanonical}
-use Rattle.sf_algebra.specs.Vectors.{Place, Vector, place_cmp}
+use Rattle.sf_algebra.specs.VectorOperations.{row_sum, row_multiple}
+use Rattle.sf_algebra.specs.Vectors.{Place, Vector, place_cmp, IsCanonicalRow}
 use Rattle.sf_algebra.proofs.Associativity.{IsOfRows, combination_combination, combination-multiple, combination-negative}
 use Rattle.sf_algebra.proofs.CombinationLaws.{combination-add, combination-add_rows, combination-append, combination-cons, combination-push, combination-nil, combination-one}
 use Rattle.sf_algebra.proofs.Combinations.{IsCanonical-combination}
@@ -40,7 +41,7 @@ row_at-append_second [] more i = ap (row_at more) (omega arith)
 row_at-append_second (v ∷ vs) more i = let next : length (v ∷ vs) + i ≡ suc (length vs + i) = omega arith in ap (row_at (v ∷ (vs ++ more))) next ∙ row_at-append_second vs more i
 
 module _ (ring : Ring) (positive : 0 < ring.modulus) where
-  pub IsCanonical-row_combination : (rows : List Vector) (c : List (Term Place)) → IsCanonical (place_cmp ring.weights) ring.modulus (row_combination ring rows c)
+  pub IsCanonical-row_combination : (rows : List Vector) (c : List (Term Place)) → IsCanonicalRow ring (row_combination ring rows c)
   IsCanonical-row_combination rows c = IsCanonical-combination (place_keys ring.weights) ring.modulus (λ k. k.monomial) (λ k. row_at rows k.position) positive c
 
   pub row_combination-nil : (rows : List Vector) → row_combination ring rows [] ≡ []
@@ -48,41 +49,41 @@ module _ (ring : Ring) (positive : 0 < ring.modulus) where
 
   -- one coefficient gives a multiple of a row
   pub row_combination-one : (rows : List Vector) (t : Term Place)
-      → row_combination ring rows (t ∷ []) ≡ multiple (place_cmp ring.weights) place_product ring.modulus (record { at = t.at.monomial; coefficient = t.coefficient }) (row_at rows t.at.position)
+      → row_combination ring rows (t ∷ []) ≡ row_multiple ring (record { at = t.at.monomial; coefficient = t.coefficient }) (row_at rows t.at.position)
   row_combination-one rows t = combination-one (place_keys ring.weights) ring.modulus positive (λ k. k.monomial) (λ k. row_at rows k.position) t
 
   -- two lists of coefficients one after the other
-  pub row_combination-append : (rows : List Vector) (c d : List (Term Place)) → row_combination ring rows (c ++ d) ≡ add (place_cmp ring.weights) ring.modulus (row_combination ring rows c) (row_combination ring rows d)
+  pub row_combination-append : (rows : List Vector) (c d : List (Term Place)) → row_combination ring rows (c ++ d) ≡ row_sum ring (row_combination ring rows c) (row_combination ring rows d)
   row_combination-append rows c d = combination-append (place_keys ring.weights) ring.modulus positive (λ k. k.monomial) (λ k. row_at rows k.position) c d
 
   -- one coefficient more, in front
   pub row_combination-cons : (rows : List Vector) (t : Term Place) (c : List (Term Place))
-      → row_combination ring rows (t ∷ c) ≡ add (place_cmp ring.weights) ring.modulus (multiple (place_cmp ring.weights) place_product ring.modulus (record { at = t.at.monomial; coefficient = t.coefficient }) (row_at rows t.at.position)) (row_combination ring rows c)
+      → row_combination ring rows (t ∷ c) ≡ row_sum ring (row_multiple ring (record { at = t.at.monomial; coefficient = t.coefficient }) (row_at rows t.at.position)) (row_combination ring rows c)
   row_combination-cons rows t c = combination-cons (place_keys ring.weights) ring.modulus positive (λ k. k.monomial) (λ k. row_at rows k.position) t c
 
   -- one coefficient more, behind, as a loop adds it
   pub row_combination-push : (rows : List Vector) (c : List (Term Place)) (t : Term Place)
-      → row_combination ring rows (c ++ t ∷ []) ≡ add (place_cmp ring.weights) ring.modulus (row_combination ring rows c) (multiple (place_cmp ring.weights) place_product ring.modulus (record { at = t.at.monomial; coefficient = t.coefficient }) (row_at rows t.at.position))
+      → row_combination ring rows (c ++ t ∷ []) ≡ row_sum ring (row_combination ring rows c) (row_multiple ring (record { at = t.at.monomial; coefficient = t.coefficient }) (row_at rows t.at.position))
   row_combination-push rows c t = combination-push (place_keys ring.weights) ring.modulus positive (λ k. k.monomial) (λ k. row_at rows k.position) c t
 
   -- additive in the coefficients
-  pub row_combination-add : (rows : List Vector) (c d : List (Term Place)) → row_combination ring rows (add (place_cmp ring.weights) ring.modulus c d) ≡ add (place_cmp ring.weights) ring.modulus (row_combination ring rows c) (row_combination ring rows d)
+  pub row_combination-add : (rows : List Vector) (c d : List (Term Place)) → row_combination ring rows (row_sum ring c d) ≡ row_sum ring (row_combination ring rows c) (row_combination ring rows d)
   row_combination-add rows c d = combination-add (place_keys ring.weights) (place_keys ring.weights) ring.modulus positive (λ k. k.monomial) (λ k. row_at rows k.position) c d
 
   -- additive in the rows
-  pub row_combination-add_rows : (sums rows others : List Vector) → ((i : ℕ) → row_at sums i ≡ add (place_cmp ring.weights) ring.modulus (row_at rows i) (row_at others i)) → (c : List (Term Place))
-      → row_combination ring sums c ≡ add (place_cmp ring.weights) ring.modulus (row_combination ring rows c) (row_combination ring others c)
+  pub row_combination-add_rows : (sums rows others : List Vector) → ((i : ℕ) → row_at sums i ≡ row_sum ring (row_at rows i) (row_at others i)) → (c : List (Term Place))
+      → row_combination ring sums c ≡ row_sum ring (row_combination ring rows c) (row_combination ring others c)
   row_combination-add_rows sums rows others same c =
       (λ i. combination (place_cmp ring.weights) place_product ring.modulus (λ k. k.monomial) (λ k. same k.position i) c)
       ∙ combination-add_rows (place_keys ring.weights) ring.modulus positive (λ k. k.monomial) (λ k. row_at rows k.position) (λ k. row_at others k.position) c
 
   -- multiples of the coefficients
   pub row_combination-multiple : (rows : List Vector) (s : Term Monomial) (c : List (Term Place))
-      → row_combination ring rows (multiple (place_cmp ring.weights) place_product ring.modulus s c) ≡ multiple (place_cmp ring.weights) place_product ring.modulus s (row_combination ring rows c)
+      → row_combination ring rows (row_multiple ring s c) ≡ row_multiple ring s (row_combination ring rows c)
   row_combination-multiple rows s c =
       combination-multiple (place_keys ring.weights) (place_keys ring.weights) ring.modulus positive (λ k. k.monomial) (λ k. row_at rows k.position) (position_rows ring.weights (row_at rows)) s c
 
-  pub row_combination-negative : (rows : List Vector) (c : List (Term Place)) → IsCanonical (place_cmp ring.weights) ring.modulus c → row_combination ring rows (negative ring.modulus c) ≡ negative ring.modulus (row_combination ring rows c)
+  pub row_combination-negative : (rows : List Vector) (c : List (Term Place)) → IsCanonicalRow ring c → row_combination ring rows (negative ring.modulus c) ≡ negative ring.modulus (row_combination ring rows c)
   row_combination-negative rows c h =
       combination-negative (place_keys ring.weights) (place_keys ring.weights) ring.modulus positive (λ k. k.monomial) (λ k. row_at rows k.position) (position_rows ring.weights (row_at rows)) c h
 

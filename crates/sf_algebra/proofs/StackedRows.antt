@@ -6,6 +6,7 @@ use Rattle.sf_algebra.specs.Multiples.{place_product, term_product}
 use Rattle.sf_algebra.specs.Rings.{Ring}
 use Rattle.sf_algebra.specs.Sums.{add, total}
 use Rattle.sf_algebra.specs.Terms.{Term}
+use Rattle.sf_algebra.specs.VectorOperations.{row_sum}
 use Rattle.sf_algebra.specs.Vectors.{Place, Vector, place_cmp}
 use Rattle.sf_algebra.proofs.CombinationLaws.{combination-rows, combination-same}
 use Rattle.sf_algebra.proofs.Combinations.{total-combination}
@@ -32,7 +33,7 @@ module _ (ring : Ring) (positive : 0 < ring.modulus) (rows more : List Vector) w
 
   -- with coefficients of both
   pub row_combination-stacked : (c d : List (Term Place)) → AllByRecursion (λ t. t.at.position < length rows) c
-      → row_combination ring (rows ++ more) (c ++ moved (length rows) d) ≡ add (place_cmp ring.weights) ring.modulus (row_combination ring rows c) (row_combination ring more d)
+      → row_combination ring (rows ++ more) (c ++ moved (length rows) d) ≡ row_sum ring (row_combination ring rows c) (row_combination ring more d)
   row_combination-stacked c d within =
       row_combination-append ring positive (rows ++ more) c (moved (length rows) d)
-      ∙ (λ i. add (place_cmp ring.weights) ring.modulus (row_combination-stacked_first c within i) (row_combination-stacked_second d i))
+      ∙ (λ i. row_sum ring (row_combination-stacked_first c within i) (row_combination-stacked_second d i))

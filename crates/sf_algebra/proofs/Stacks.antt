@@ -36,9 +36,9 @@ with_terms-same f [] h = refl
 with_terms-same f (v ∷ vs) h = λ i. record { degree = v.degree; terms = h.0 i } ∷ with_terms-same f vs h.1 i
 
 pub IsMatrix-stacked : (a b : Matrix) → a.ring ≡ b.ring → a.target ≡ b.target → IsMatrix a → IsMatrix b → IsMatrix (stacked a b)
-IsMatrix-stacked a b moduli targets h k =
+IsMatrix-stacked a b rings targets h k =
     AllByRecursion-append (IsVector a.ring a.target) a.rows b.rows h
-    (subst (λ ring. AllByRecursion (IsVector ring a.target) b.rows) (sym moduli) (subst (λ ds. AllByRecursion (IsVector b.ring ds) b.rows) (sym targets) k))
+    (subst (λ ring. AllByRecursion (IsVector ring a.target) b.rows) (sym rings) (subst (λ ds. AllByRecursion (IsVector b.ring ds) b.rows) (sym targets) k))
 
 pub row_degrees-stacked : (a b : Matrix) → row_degrees (stacked a b) ≡ row_degrees a ++ row_degrees b
 row_degrees-stacked a b = map-append (λ (v : Vector). v.degree) a.rows b.rows
@@ -51,7 +51,7 @@ pub stacked-nil : (a b : Matrix) → b.rows ≡ [] → stacked a b ≡ a
 stacked-nil a b none = λ i. record { ring = a.ring; target = a.target; rows = (ap (λ vs. a.rows ++ vs) none ∙ append-nil a.rows) i }
 
 pub negated-stacked : (a b : Matrix) → a.ring ≡ b.ring → negated (stacked a b) ≡ stacked (negated a) (negated b)
-negated-stacked a b moduli =
+negated-stacked a b rings =
     let rows = map-append (λ (v : Vector). record { degree = v.degree; terms = negative a.ring.modulus v.terms }) a.rows b.rows
-    ∙ ap (λ (q : Ring). with_terms (negative a.ring.modulus) a.rows ++ with_terms (negative q.modulus) b.rows) moduli in
+    ∙ ap (λ (q : Ring). with_terms (negative a.ring.modulus) a.rows ++ with_terms (negative q.modulus) b.rows) rings in
     λ i. record { ring = a.ring; target = a.target; rows = rows i }

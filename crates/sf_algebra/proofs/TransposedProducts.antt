@@ -55,8 +55,8 @@ transposed-identity ring ds above =
 
 pub IsComposable-transposed : (a b : Matrix) → IsComposable a b → IsComposable (transposed b) (transposed a)
 IsComposable-transposed a b c = record {
-  positive = subst (λ (q : Ring). 0 < q.modulus) c.moduli c.positive;
-  moduli = sym c.moduli;
+  positive = subst (λ (q : Ring). 0 < q.modulus) c.rings c.positive;
+  rings = sym c.rings;
   degrees = row_degrees-transposed a ∙ ap (map neg_ℤ) (sym c.degrees);
 }
 
@@ -69,7 +69,7 @@ transposed-matrix_product a b c h k =
     same_matrices (transposed (matrix_product a b)) (matrix_product (transposed b) (transposed a))
     (IsMatrix-transposed (matrix_product a b) ab)
     (IsMatrix-matrix_product (transposed b) (transposed a) d tb ta)
-    c.moduli
+    c.rings
     (ap (map neg_ℤ) (row_degrees-matrix_product a b))
     (row_degrees-transposed (matrix_product a b) ∙ sym (row_degrees-matrix_product (transposed b) (transposed a) ∙ row_degrees-transposed b))
     (λ i j.
@@ -77,6 +77,6 @@ transposed-matrix_product a b c h k =
     ∙ ap (entry i) (row_at-matrix_product a.ring c.positive a b j refl)
     ∙ entry-row_combination a.ring c.positive i b.rows (row_at a.rows j) (row_at (transposed b).rows i) (λ l. entry-transposed b k l i)
     ∙ inner_product-comm a.ring c.positive (row_at a.rows j) (row_at (transposed b).rows i)
-    ∙ ap (λ ring. inner_product ring (row_at (transposed b).rows i) (row_at a.rows j)) c.moduli
+    ∙ ap (λ ring. inner_product ring (row_at (transposed b).rows i) (row_at a.rows j)) c.rings
     ∙ sym (entry-row_combination b.ring d.positive j (transposed a).rows (row_at (transposed b).rows i) (row_at a.rows j) (λ l. sym (entry-transposed a h j l)))
     ∙ ap (entry j) (sym (row_at-matrix_product b.ring d.positive (transposed b) (transposed a) i refl)))

@@ -8,7 +8,7 @@ use Rattle.sf_algebra.specs.Residues.{sum_mod}
 use Rattle.sf_algebra.specs.Rings.{Ring}
 use Rattle.sf_algebra.specs.Sums.{total}
 use Rattle.sf_algebra.specs.Terms.{Term, IsCanonical}
-use Rattle.sf_algebra.specs.Vectors.{Place, Vector, place_cmp}
+use Rattle.sf_algebra.specs.Vectors.{Place, Vector, place_cmp, IsCanonicalRow}
 use Rattle.sf_algebra.proofs.CombinationLaws.{combination-same}
 use Rattle.sf_algebra.proofs.Combinations.{factor, share}
 use Rattle.sf_algebra.proofs.DoubleTotals.{total-each}
@@ -30,7 +30,7 @@ row_at-unit_rows (d ∷ ds) from zero h = ap (λ n. unit_term n ∷ []) (omega a
 row_at-unit_rows (d ∷ ds) from (suc i) h = row_at-unit_rows ds (suc from) i (omega arith) ∙ ap (λ n. unit_term n ∷ []) (omega arith)
 
 -- a unit vector of coefficients picks a row
-pub row_combination-unit : (ring : Ring) → 0 < ring.modulus → (rows : List Vector) (i : ℕ) → IsCanonical (place_cmp ring.weights) ring.modulus (row_at rows i) → row_combination ring rows (unit_term i ∷ []) ≡ row_at rows i
+pub row_combination-unit : (ring : Ring) → 0 < ring.modulus → (rows : List Vector) (i : ℕ) → IsCanonicalRow ring (row_at rows i) → row_combination ring rows (unit_term i ∷ []) ≡ row_at rows i
 row_combination-unit ring positive rows i h = row_combination-one ring positive rows (unit_term i) ∙ multiple-one (place_keys ring.weights) ring.modulus positive (row_at rows i) h
 
 -- a coefficient times the unit vector at its position
@@ -41,7 +41,7 @@ term_product-unit_term p t = λ i. record {
 }
 
 -- unit rows give the coefficients back
-pub row_combination-unit_rows : (ring : Ring) → 0 < ring.modulus → (degrees : List ℤ) (c : List (Term Place)) → IsCanonical (place_cmp ring.weights) ring.modulus c → AllByRecursion (λ t. t.at.position < length degrees) c
+pub row_combination-unit_rows : (ring : Ring) → 0 < ring.modulus → (degrees : List ℤ) (c : List (Term Place)) → IsCanonicalRow ring c → AllByRecursion (λ t. t.at.position < length degrees) c
     → row_combination ring (unit_rows 0 degrees) c ≡ c
 row_combination-unit_rows ring positive degrees c canonical within =
     combination-same (place_keys ring.weights) ring.modulus positive (λ k. k.monomial) (λ k. row_at (unit_rows 0 degrees) k.position) c c canonical

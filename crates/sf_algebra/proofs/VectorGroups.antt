@@ -9,6 +9,7 @@ use Rattle.sf_algebra.specs.Multiples.{multiple, negative}
 use Rattle.sf_algebra.specs.Rings.{Ring}
 use Rattle.sf_algebra.specs.Sums.{add}
 use Rattle.sf_algebra.specs.Terms.{Term, IsCanonical}
+use Rattle.sf_algebra.specs.VectorOperations.{row_sum}
 use Rattle.sf_algebra.specs.Vectors.{Place, Vector, place_cmp, IsVector}
 use Rattle.sf_algebra.proofs.HomogeneousVectors.{IsVector-add, IsVector-nil, IsVector-negative, IsVector-row_combination}
 use Rattle.sf_algebra.proofs.Keys.{Keys, place_keys}
@@ -17,6 +18,7 @@ use Rattle.sf_algebra.proofs.Multiples.{IsCanonical-multiple}
 use Rattle.sf_algebra.proofs.Negatives.{IsCanonical-negative, add-negative}
 use Rattle.sf_algebra.proofs.Normal.{IsCanonical-add}
 use Rattle.sf_algebra.proofs.Orders.{place_cmp_linear}
+use Rattle.sf_algebra.proofs.RowSums.{row_sum-comm, row_sum-assoc, row_sum-nil}
 use Rattle.sf_algebra.proofs.Rows.{IsCanonical-row_combination, row_combination-add, row_combination-multiple}
 use Rattle.sf_algebra.proofs.Subgroups.{Whole-sub, ImageOf-sub}
 use Rattle.sf_algebra.proofs.Sums.{add_comm, add_assoc, add-nil}
@@ -64,12 +66,12 @@ abbrev pub vectors_of_degree : (ring : Ring) → 0 < ring.modulus → List ℤ �
 vectors_of_degree ring positive degrees d = record {
   V = (ts : List (Term Place)) × IsVector ring degrees (record { degree = d; terms = ts });
   zero = ([], IsVector-nil ring degrees d);
-  plus = λ u v. (add (place_cmp ring.weights) ring.modulus u.0 v.0, IsVector-add ring degrees positive d u.0 v.0 u.1 v.1);
+  plus = λ u v. (row_sum ring u.0 v.0, IsVector-add ring degrees positive d u.0 v.0 u.1 v.1);
   minus = λ u. (negative ring.modulus u.0, IsVector-negative ring degrees d u.0 u.1);
   act = λ r u. absurd r;
-  comm = λ u v. same_vector ring degrees d _ _ (add_comm (place_cmp ring.weights) (place_cmp_linear ring.weights) ring.modulus positive u.0 v.0);
-  assoc = λ u v w. same_vector ring degrees d _ _ (add_assoc (place_cmp ring.weights) (place_cmp_linear ring.weights) ring.modulus positive u.0 v.0 w.0);
-  unit = λ u. same_vector ring degrees d _ _ (add-nil (place_cmp ring.weights) (place_cmp_linear ring.weights) ring.modulus positive u.0 (u.1).canonical);
+  comm = λ u v. same_vector ring degrees d _ _ (row_sum-comm ring positive u.0 v.0);
+  assoc = λ u v w. same_vector ring degrees d _ _ (row_sum-assoc ring positive u.0 v.0 w.0);
+  unit = λ u. same_vector ring degrees d _ _ (row_sum-nil ring positive u.0 (u.1).canonical);
   inverse = λ u. same_vector ring degrees d _ _ (add-negative (place_keys ring.weights) ring.modulus positive u.0 (u.1).canonical);
   act_plus = λ r u v. absurd r;
 }

@@ -12,19 +12,20 @@ use Rattle.sf_algebra.specs.Residues.{product_mod}
 use Rattle.sf_algebra.specs.Rings.{Ring}
 use Rattle.sf_algebra.specs.Sums.{add, total, coefficient_at}
 use Rattle.sf_algebra.specs.Terms.{Term, IsCanonical}
-use Rattle.sf_algebra.specs.Vectors.{Place, Vector, place_cmp, entry}
+use Rattle.sf_algebra.specs.VectorOperations.{row_sum, row_multiple}
+use Rattle.sf_algebra.specs.Vectors.{Place, Vector, place_cmp, entry, IsCanonicalRow}
 
 -- a combination is canonical
 abbrev pub HasCanonicalCombinations : Type 0
-HasCanonicalCombinations = (ring : Ring) → 0 < ring.modulus → (rows : List Vector) (c : List (Term Place)) → IsCanonical (place_cmp ring.weights) ring.modulus (row_combination ring rows c)
+HasCanonicalCombinations = (ring : Ring) → 0 < ring.modulus → (rows : List Vector) (c : List (Term Place)) → IsCanonicalRow ring (row_combination ring rows c)
 
 -- the product of the coefficients of a term of c and a term of its row whose product stands at k, and 0 for other terms
 abbrev pub combination_part : Ring → Place → Term Place → Term Place → ℕ
 combination_part ring k t u = if is_eq (place_cmp ring.weights (place_product t.at.monomial u.at) k) then product_mod ring.modulus t.coefficient u.coefficient else 0
 
 -- the coefficient of c M at k is the sum, over the terms of c and of their rows whose product stands at k, of the products of their coefficients
-abbrev pub SumsProductsOfCoefficients : Type 0
-SumsProductsOfCoefficients =
+abbrev pub SumsProductsWithRows : Type 0
+SumsProductsWithRows =
     (ring : Ring) (rows : List Vector) (c : List (Term Place)) (k : Place)
     → coefficient_at (place_cmp ring.weights) ring.modulus k (row_combination ring rows c) ≡ total ring.modulus (λ t. total ring.modulus (combination_part ring k t) (row_at rows t.at.position)) c
 
@@ -42,30 +43,30 @@ SumsProductsOfEntries =
 abbrev pub MultipliesRows : Type 0
 MultipliesRows =
     (ring : Ring) → 0 < ring.modulus → (rows : List Vector) (t : Term Place)
-    → row_combination ring rows (t ∷ []) ≡ multiple (place_cmp ring.weights) place_product ring.modulus (record { at = t.at.monomial; coefficient = t.coefficient }) (row_at rows t.at.position)
+    → row_combination ring rows (t ∷ []) ≡ row_multiple ring (record { at = t.at.monomial; coefficient = t.coefficient }) (row_at rows t.at.position)
 
 -- the combination with a sum of coefficients
 abbrev pub IsAdditiveInCoefficients : Type 0
 IsAdditiveInCoefficients =
     (ring : Ring) → 0 < ring.modulus → (rows : List Vector) (c d : List (Term Place))
-    → row_combination ring rows (add (place_cmp ring.weights) ring.modulus c d) ≡ add (place_cmp ring.weights) ring.modulus (row_combination ring rows c) (row_combination ring rows d)
+    → row_combination ring rows (row_sum ring c d) ≡ row_sum ring (row_combination ring rows c) (row_combination ring rows d)
 
 -- the combination of rows each of which is the sum of two rows
 abbrev pub IsAdditiveInRows : Type 0
 IsAdditiveInRows =
-    (ring : Ring) → 0 < ring.modulus → (sums rows others : List Vector) → ((i : ℕ) → row_at sums i ≡ add (place_cmp ring.weights) ring.modulus (row_at rows i) (row_at others i))
-    → (c : List (Term Place)) → row_combination ring sums c ≡ add (place_cmp ring.weights) ring.modulus (row_combination ring rows c) (row_combination ring others c)
+    (ring : Ring) → 0 < ring.modulus → (sums rows others : List Vector) → ((i : ℕ) → row_at sums i ≡ row_sum ring (row_at rows i) (row_at others i))
+    → (c : List (Term Place)) → row_combination ring sums c ≡ row_sum ring (row_combination ring rows c) (row_combination ring others c)
 
 -- the combination with a multiple of the coefficients
 abbrev pub TakesMultiples : Type 0
 TakesMultiples =
     (ring : Ring) → 0 < ring.modulus → (rows : List Vector) (s : Term Monomial) (c : List (Term Place))
-    → row_combination ring rows (multiple (place_cmp ring.weights) place_product ring.modulus s c) ≡ multiple (place_cmp ring.weights) place_product ring.modulus s (row_combination ring rows c)
+    → row_combination ring rows (row_multiple ring s c) ≡ row_multiple ring s (row_combination ring rows c)
 
 -- the combination with the negatives of the coefficients
 abbrev pub TakesNegatives : Type 0
 TakesNegatives =
-    (ring : Ring) → 0 < ring.modulus → (rows : List Vector) (c : List (Term Place)) → IsCanonical (place_cmp ring.weights) ring.modulus c
+    (ring : Ring) → 0 < ring.modulus → (rows : List Vector) (c : List (Term Place)) → IsCanonicalRow ring c
     → row_combination ring rows (negative ring.modulus c) ≡ negative ring.modulus (row_combination ring rows c)
 
 -- the combination of the rows of the negative of a matrix
@@ -83,17 +84,17 @@ IsAssociativeWithProducts =
 -- a unit vector of coefficients picks a row
 abbrev pub PicksRows : Type 0
 PicksRows =
-    (ring : Ring) → 0 < ring.modulus → (rows : List Vector) (d : ℤ) (i : ℕ) → IsCanonical (place_cmp ring.weights) ring.modulus (row_at rows i)
+    (ring : Ring) → 0 < ring.modulus → (rows : List Vector) (d : ℤ) (i : ℕ) → IsCanonicalRow ring (row_at rows i)
     → row_combination ring rows (unit_vector d i).terms ≡ row_at rows i
 
 -- unit rows give the coefficients back
 abbrev pub KeepsWithUnitRows : Type 0
 KeepsWithUnitRows =
-    (ring : Ring) → 0 < ring.modulus → (degrees : List ℤ) (c : List (Term Place)) → IsCanonical (place_cmp ring.weights) ring.modulus c → AllByRecursion (λ t. t.at.position < length degrees) c
+    (ring : Ring) → 0 < ring.modulus → (degrees : List ℤ) (c : List (Term Place)) → IsCanonicalRow ring c → AllByRecursion (λ t. t.at.position < length degrees) c
     → row_combination ring (unit_rows 0 degrees) c ≡ c
 
 -- the combination of rows and further rows is the sum of a combination of each
 abbrev pub AddsOverStackedRows : Type 0
 AddsOverStackedRows =
     (ring : Ring) → 0 < ring.modulus → (rows more : List Vector) (c d : List (Term Place)) → AllByRecursion (λ t. t.at.position < length rows) c
-    → row_combination ring (rows ++ more) (c ++ moved (length rows) d) ≡ add (place_cmp ring.weights) ring.modulus (row_combination ring rows c) (row_combination ring more d)
+    → row_combination ring (rows ++ more) (c ++ moved (length rows) d) ≡ row_sum ring (row_combination ring rows c) (row_combination ring more d)

@@ -9,6 +9,7 @@ use Rattle.sf_algebra.specs.Multiples.{place_product, multiple, negative}
 use Rattle.sf_algebra.specs.Rings.{Ring}
 use Rattle.sf_algebra.specs.Sums.{add}
 use Rattle.sf_algebra.specs.Terms.{Term}
+use Rattle.sf_algebra.specs.VectorOperations.{row_sum, row_multiple}
 use Rattle.sf_algebra.specs.Vectors.{Place, Vector, place_cmp, IsVector}
 
 -- the sum of two vectors of one degree
@@ -16,7 +17,7 @@ abbrev pub HasHomogeneousSums : Type 0
 HasHomogeneousSums =
     (ring : Ring) → 0 < ring.modulus → (degrees : List ℤ) (d : ℤ) (us vs : List (Term Place))
     → IsVector ring degrees (record { degree = d; terms = us }) → IsVector ring degrees (record { degree = d; terms = vs })
-    → IsVector ring degrees (record { degree = d; terms = add (place_cmp ring.weights) ring.modulus us vs })
+    → IsVector ring degrees (record { degree = d; terms = row_sum ring us vs })
 
 -- the negative of a vector
 abbrev pub HasHomogeneousNegatives : Type 0
@@ -28,7 +29,7 @@ HasHomogeneousNegatives =
 abbrev pub AddsDegrees : Type 0
 AddsDegrees =
     (ring : Ring) → 0 < ring.modulus → (degrees : List ℤ) (d : ℤ) (s : Term Monomial) (us : List (Term Place)) → IsVector ring degrees (record { degree = d; terms = us })
-    → IsVector ring degrees (record { degree = d +ℤ pos (monomial_degree ring.weights s.at); terms = multiple (place_cmp ring.weights) place_product ring.modulus s us })
+    → IsVector ring degrees (record { degree = d +ℤ pos (monomial_degree ring.weights s.at); terms = row_multiple ring s us })
 
 -- a vector over the rows of a matrix times the matrix
 abbrev pub HasHomogeneousCombinations : Type 0

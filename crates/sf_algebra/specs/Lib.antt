@@ -21,6 +21,7 @@ pub mod NumberLaws
 pub mod Matrices
 pub mod Printing
 pub mod Multiples
+pub mod VectorOperations
 pub mod PlaceLaws
 pub mod Polynomials
 pub mod MatrixOperations

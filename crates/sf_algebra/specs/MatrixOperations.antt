@@ -93,10 +93,14 @@ part_terms from to ts =
     map (λ (t : Term Place). record { at = record { position = t.at.position - from; monomial = t.at.monomial }; coefficient = t.coefficient })
     (filter (λ (t : Term Place). nat_le from t.at.position && nat_lt t.at.position to) ts)
 
+-- the part of a vector at these positions, which keeps the degree
+abbrev pub vector_part : ℕ → ℕ → Vector → Vector
+vector_part from to v = record { degree = v.degree; terms = part_terms from to v.terms }
+
 -- the rows from r0 to before r1 in the columns from c0 to before c1
 abbrev pub part : ℕ → ℕ → ℕ → ℕ → Matrix → Matrix
 part r0 r1 c0 c1 m = record {
   ring = m.ring;
   target = slice_range m.target c0 c1;
-  rows = map (λ (v : Vector). record { degree = v.degree; terms = part_terms c0 c1 v.terms }) (slice_range m.rows r0 r1);
+  rows = map (vector_part c0 c1) (slice_range m.rows r0 r1);
 }

@@ -10,7 +10,7 @@ use Rattle.sf_algebra.specs.Vectors.{entry}
 -- the modulus is one and positive, and the rows of b stand for the columns of a
 pub record IsComposable (a b : Matrix) : Type 0 where
   pub positive : 0 < a.ring.modulus
-  pub moduli : a.ring ≡ b.ring
+  pub rings : a.ring ≡ b.ring
   pub degrees : row_degrees b ≡ a.target
 
 -- a product is a matrix, whose rows have the degrees of the first factor's

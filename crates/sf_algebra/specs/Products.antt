@@ -12,8 +12,8 @@ abbrev pub IsAssociative : {A : Type 0} → (A → A → A) → Type 0
 IsAssociative {A} operation = (a b c : A) → operation (operation a b) c ≡ operation a (operation b c)
 
 -- a factor 1 may be left out
-abbrev pub HasOne : Type 0
-HasOne = (a : Monomial) → product one a ≡ a
+abbrev pub LeavesOutOne : Type 0
+LeavesOutOne = (a : Monomial) → product one a ≡ a
 
 -- the order is kept by products: two monomials compare as their products with a third one do
 abbrev pub KeptByProducts : Type 0

@@ -28,13 +28,13 @@ pub record Vector : Type 0 where
 abbrev pub generator_degree : List ℤ → ℕ → ℤ
 generator_degree degrees i = slice_index_or degrees i (pos 0)
 
--- the degree of a term: that of its generator and the sum of its exponents
-abbrev pub term_degree : Weights → List ℤ → Term Place → ℤ
-term_degree weights degrees t = generator_degree degrees t.at.position +ℤ pos (monomial_degree weights t.at.monomial)
+-- the degree of a place: that of its generator and that of its monomial
+abbrev pub place_degree : Weights → List ℤ → Place → ℤ
+place_degree weights degrees k = generator_degree degrees k.position +ℤ pos (monomial_degree weights k.monomial)
 
 -- a term of degree d at one of the generators
 abbrev pub IsTermOfDegree : Weights → List ℤ → ℤ → Term Place → Type 0
-IsTermOfDegree weights degrees d t = (t.at.position < length degrees) × (d ≡ term_degree weights degrees t)
+IsTermOfDegree weights degrees d t = (t.at.position < length degrees) × (d ≡ place_degree weights degrees t.at)
 
 -- all terms have degree d
 abbrev pub IsHomogeneous : Weights → List ℤ → ℤ → List (Term Place) → Type 0
@@ -47,9 +47,13 @@ entry i = filter_map (λ t. if t.at.position == i then Some (record { at = t.at.
 -- the degree of a row that is written without one: that of its first term, and 0 where there is none
 abbrev pub row_degree : Weights → List ℤ → List (Term Place) → ℤ
 row_degree weights degrees [] = pos 0
-row_degree weights degrees (t ∷ ts) = term_degree weights degrees t
+row_degree weights degrees (t ∷ ts) = place_degree weights degrees t.at
 
--- v is a homogeneous vector over this free module, with residues modulo p
+-- the one list for the terms of a vector of a free module of this ring
+abbrev pub IsCanonicalRow : Ring → List (Term Place) → Type 0
+IsCanonicalRow ring ts = IsCanonical (place_cmp ring.weights) ring.modulus ts
+
+-- v is a homogeneous vector over this free module of the ring
 pub record IsVector (ring : Ring) (degrees : List ℤ) (v : Vector) : Type 0 where
-  pub canonical : IsCanonical (place_cmp ring.weights) ring.modulus v.terms
+  pub canonical : IsCanonicalRow ring v.terms
   pub homogeneous : IsHomogeneous ring.weights degrees v.degree v.terms

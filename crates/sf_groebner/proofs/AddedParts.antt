@@ -7,7 +7,8 @@ use Rattle.sf_algebra.specs.Residues.{sum_mod}
 use Rattle.sf_algebra.specs.Rings.{Ring, IsRing}
 use Rattle.sf_algebra.specs.Sums.{add, total}
 use Rattle.sf_algebra.specs.Terms.{Term, IsCanonical}
-use Rattle.sf_algebra.specs.Vectors.{Place, place_cmp}
+use Rattle.sf_algebra.specs.VectorOperations.{row_sum}
+use Rattle.sf_algebra.specs.Vectors.{Place, place_cmp, IsCanonicalRow}
 use Rattle.sf_algebra.proofs.CombinationLaws.{combination-same}
 use Rattle.sf_algebra.proofs.Combinations.{factor, share}
 use Rattle.sf_algebra.proofs.DoubleTotals.{total-each, total-map}
@@ -21,15 +22,15 @@ use Rattle.sf_algebra.proofs.Residues.{product_mod-one, sum_mod-zero}
 use Rattle.sf_algebra.proofs.Sums.{normal-canonical}
 use Rattle.sf_algebra.proofs.Totals.{IsAdditive, additive-reduced, total-cons, total-nil, total-reduced}
 use Rattle.sf_algebra.proofs.UnitRows.{row_at-unit_rows}
-use Rattle.sf_groebner.proofs.PairedVectors.{pair_terms-parts}
+use Rattle.sf_groebner.proofs.PairedVectors.{paired_terms-parts}
 
 -- a sum whose terms stand in order is one list after the other
-pub add-canonical_append : (ring : Ring) → IsRing ring → (us vs : List (Term Place)) → IsCanonical (place_cmp ring.weights) ring.modulus (us ++ vs) → add (place_cmp ring.weights) ring.modulus us vs ≡ us ++ vs
+pub add-canonical_append : (ring : Ring) → IsRing ring → (us vs : List (Term Place)) → IsCanonicalRow ring (us ++ vs) → row_sum ring us vs ≡ us ++ vs
 unfolding add
 add-canonical_append ring positive us vs h = normal-canonical (place_cmp ring.weights) (place_cmp_linear ring.weights) ring.modulus positive.modulus (us ++ vs) h
 
 -- unit rows that begin at position n move coefficients by n
-pub row_combination-unit_rows_from : (ring : Ring) → IsRing ring → (n : ℕ) (ds : List ℤ) (c : List (Term Place)) → IsCanonical (place_cmp ring.weights) ring.modulus c → IsWithin (length ds) c → row_combination ring (unit_rows n ds) c ≡ moved n c
+pub row_combination-unit_rows_from : (ring : Ring) → IsRing ring → (n : ℕ) (ds : List ℤ) (c : List (Term Place)) → IsCanonicalRow ring c → IsWithin (length ds) c → row_combination ring (unit_rows n ds) c ≡ moved n c
 row_combination-unit_rows_from ring positive n ds c canonical within =
     combination-same (place_keys ring.weights) ring.modulus positive.modulus (λ k. k.monomial) (λ k. row_at (unit_rows n ds) k.position) c (moved n c) (IsCanonical-moved ring n c canonical)
     (λ g additive.
@@ -57,7 +58,7 @@ row_combination-unit_rows_from ring positive n ds c canonical within =
         ∙ additive-reduced ring.modulus g additive place t.coefficient
 
 -- a vector is the sum of its terms at the first n positions and of those behind them
-pub add-parts : (ring : Ring) → IsRing ring → (n k : ℕ) (ts : List (Term Place)) → IsCanonical (place_cmp ring.weights) ring.modulus ts → IsWithin (n + k) ts → add (place_cmp ring.weights) ring.modulus (part_terms 0 n ts) (moved n (part_terms n (n + k) ts)) ≡ ts
+pub add-parts : (ring : Ring) → IsRing ring → (n k : ℕ) (ts : List (Term Place)) → IsCanonicalRow ring ts → IsWithin (n + k) ts → row_sum ring (part_terms 0 n ts) (moved n (part_terms n (n + k) ts)) ≡ ts
 add-parts ring positive n k ts canonical within =
-    let parts = pair_terms-parts ring.weights n k ts canonical.descending within in
-    add-canonical_append ring positive (part_terms 0 n ts) (moved n (part_terms n (n + k) ts)) (subst (IsCanonical (place_cmp ring.weights) ring.modulus) (sym parts) canonical) ∙ parts
+    let parts = paired_terms-parts ring.weights n k ts canonical.descending within in
+    add-canonical_append ring positive (part_terms 0 n ts) (moved n (part_terms n (n + k) ts)) (subst (IsCanonicalRow ring) (sym parts) canonical) ∙ parts

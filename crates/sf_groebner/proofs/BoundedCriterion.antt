@@ -9,8 +9,8 @@ use Rattle.sf_algebra.specs.MatrixOperations.{row_combination}
 use Rattle.sf_algebra.specs.Monomials.{monomial_degree}
 use Rattle.sf_algebra.specs.Multiples.{place_product}
 use Rattle.sf_algebra.specs.Rings.{IsRing}
-use Rattle.sf_algebra.specs.Vectors.{Vector}
-use Rattle.sf_groebner.specs.Criterion.{HaveLeadsAtOnePosition, IsMonicRow, ReducesToZero, lcm_place, lead_at, pair_place, place_degree}
+use Rattle.sf_algebra.specs.Vectors.{Vector, place_degree}
+use Rattle.sf_groebner.specs.Criterion.{HaveLeadsAtOnePosition, IsMonicRow, ReducesToZero, lcm_place, lead_at, pair_place}
 use Rattle.sf_groebner.specs.ReducedBases.{HasDividedLead}
 use Rattle.sf_groebner.specs.Spans.{IsCoefficients}
 use Rattle.sf_groebner.proofs.Buchberger.{buchberger_at}

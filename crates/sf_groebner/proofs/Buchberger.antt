@@ -8,13 +8,13 @@ use Rattle.sf_algebra.specs.Rings.{Ring, IsRing}
 use Rattle.sf_algebra.specs.Terms.{Term}
 use Rattle.sf_algebra.specs.Vectors.{Place, Vector}
 use Rattle.sf_algebra.proofs.Normal.{EachPlace}
-use Rattle.sf_groebner.specs.Criterion.{HaveLeadsAtOnePosition, IsForRows, IsMonicRow, ReducesToZero, image, lcm_place, lead_at, pair_place}
+use Rattle.sf_groebner.specs.Criterion.{HaveLeadsAtOnePosition, IsForRows, IsMonicRow, ReducesToZero, lead_multiple, lcm_place, lead_at, pair_place}
 use Rattle.sf_groebner.specs.Leads.{PlaceDivides}
 use Rattle.sf_groebner.specs.ReducedBases.{HasDividedLead}
 use Rattle.sf_groebner.proofs.Images.{IsSettled, IsUnder}
 use Rattle.sf_groebner.proofs.Kernels.{IsZero, IsZero-module, reduces-settled, settled-reduces}
 use Rattle.sf_groebner.proofs.MonicRows.{HasDividedLead-Begins, lead_bound, monic_leads}
-use Rattle.sf_groebner.proofs.Pairs.{IsSettled-chain, IsSettled-turn, cofactor, image-pair_place, lcm_place-comm, same_lead_position, settled_pairs}
+use Rattle.sf_groebner.proofs.Pairs.{IsSettled-chain, IsSettled-turn, cofactor, lead_multiple-pair_place, lcm_place-comm, same_lead_position, settled_pairs}
 use Rattle.sf_groebner.proofs.Standard.{standard}
 use Rattle.sf_groebner.proofs.TopCoefficients.{Begins}
 
@@ -32,7 +32,7 @@ module _ (ring : Ring) (positive : IsRing ring) (rows : List Vector) where
       → IsSettled ring (IsInside rows) (lead_at rows) (IsZero ring positive rows) (pair_place (lead_at rows) i j) (pair_place (lead_at rows) j i) → ReducesToZero ring rows i j
   ReducesToZero-IsSettled i j positions h = record {
     steps = h.lower;
-    below = subst (λ b. EachPlace (IsUnder ring.weights (IsInside rows) (lead_at rows) b) h.lower) (image-pair_place (lead_at rows) j i ∙ sym (lcm_place-comm (lead_at rows) i j positions)) h.under;
+    below = subst (λ b. EachPlace (IsUnder ring.weights (IsInside rows) (lead_at rows) b) h.lower) (lead_multiple-pair_place (lead_at rows) j i ∙ sym (lcm_place-comm (lead_at rows) i j positions)) h.under;
     value = reduces-settled ring positive rows (IsInside rows) (lead_at rows) i j positions h;
   }
 
@@ -52,13 +52,13 @@ module _ (ring : Ring) (positive : IsRing ring) (rows : List Vector) where
   module _ (monic : AllByRecursion (IsMonicRow ring) rows) where
     -- the criterion for coefficients at the places in In
     pub buchberger_at : (In : Place → Type 0) → ((k : Place) → In k → k.position < length rows)
-        → ((j k : Place) → In j → In k → image (lead_at rows) j ≡ image (lead_at rows) k → j.position < k.position
+        → ((j k : Place) → In j → In k → lead_multiple (lead_at rows) j ≡ lead_multiple (lead_at rows) k → j.position < k.position
         → IsSettled ring (λ u. In (place_product (cofactor (lead_at rows) j k) u)) (lead_at rows) (IsZero ring positive rows) (pair_place (lead_at rows) j.position k.position) (pair_place (lead_at rows) k.position j.position))
         → (c : List (Term Place)) → EachPlace In c → HasDividedLead rows (row_combination ring rows c)
     buchberger_at In inside pairs c h =
         ⊎_elim
         (λ (none : row_combination ring rows c ≡ []). subst (HasDividedLead rows) (sym none) tt)
-        (λ (found : (k : Place) × In k × Begins (image (lead_at rows) k) (row_combination ring rows c)).
+        (λ (found : (k : Place) × In k × Begins (lead_multiple (lead_at rows) k) (row_combination ring rows c)).
         HasDividedLead-Begins ring rows monic found.0 (inside found.0 found.1) (row_combination ring rows c) found.2)
         (standard ring (lead_bound rows) positive In rows (lead_at rows) (monic_leads ring rows monic In inside) (IsZero ring positive rows) (IsZero-module ring positive rows)
         (settled_pairs ring (IsZero ring positive rows) (IsZero-module ring positive rows) In (lead_at rows) positive pairs) (λ s none. none) c h)

@@ -11,13 +11,15 @@ use Rattle.sf_algebra.specs.Primes.{IsPrime}
 use Rattle.sf_algebra.specs.Rings.{Ring, IsOverField}
 use Rattle.sf_algebra.specs.Sums.{add}
 use Rattle.sf_algebra.specs.Terms.{Term}
+use Rattle.sf_algebra.specs.VectorOperations.{row_sum}
 use Rattle.sf_algebra.specs.Vectors.{Place, Vector, place_cmp, IsHomogeneous}
 use Rattle.sf_algebra.proofs.Degrees.{degrees_of}
 use Rattle.sf_algebra.proofs.Lists.{AllByRecursion-weaken}
 use Rattle.sf_algebra.proofs.Orders.{place_cmp_linear}
+use Rattle.sf_algebra.proofs.RowSums.{row_sum-nil_first}
 use Rattle.sf_algebra.proofs.Rows.{IsCanonical-row_combination}
 use Rattle.sf_algebra.proofs.Sums.{add-nil_first}
-use Rattle.sf_groebner.specs.Criterion.{HaveLeadsAtOnePosition, ReducesToZero, lead_at, lead_place, s_vector, pair_terms}
+use Rattle.sf_groebner.specs.Criterion.{HaveLeadsAtOnePosition, ReducesToZero, lead_at, lead_place, s_vector, s_coefficients}
 use Rattle.sf_groebner.specs.Leads.{place_divides}
 use Rattle.sf_groebner.specs.ReducedBases.{HasDividedLead, IsMonic, IsReducedBy, is_divided}
 use Rattle.sf_algebra.proofs.Weights.{field_ring}
@@ -28,7 +30,7 @@ use Rattle.sf_groebner.proofs.Divisions.{Division, divide}
 use Rattle.sf_groebner.proofs.Generators.{AreGenerators, IsCombination, IsCombination-trans}
 use Rattle.sf_groebner.proofs.LeadDivisors.{is_divided-lead_places, lead_places}
 use Rattle.sf_groebner.proofs.MonicVectors.{IsMonicVector}
-use Rattle.sf_groebner.proofs.HomogeneousPairs.{ReducesToZero-division, pair_degree, pair_terms-homogeneous}
+use Rattle.sf_groebner.proofs.HomogeneousPairs.{ReducesToZero-division, pair_degree, s_coefficients-homogeneous}
 use Rattle.sf_groebner.proofs.Submodules.{HasMonicAt, IsSubmodule, monic_multiple, rest-inside}
 
 -- a fact of each item, or one that an item gives
@@ -94,8 +96,8 @@ module _ (ring : Ring) (prime : IsOverField ring) (target : List ℤ) (N : Vecto
             coefficients = e.quotients;
             homogeneous = e.homogeneous;
             value =
-                sym (add-nil_first (place_cmp ring.weights) (place_cmp_linear ring.weights) ring.modulus (field_ring prime).modulus (row_combination ring rows e.quotients) (IsCanonical-row_combination ring (field_ring prime).modulus rows e.quotients))
-                ∙ ap (λ ts. add (place_cmp ring.weights) ring.modulus ts (row_combination ring rows e.quotients)) (sym found.1)
+                sym (row_sum-nil_first ring (field_ring prime).modulus (row_combination ring rows e.quotients) (IsCanonical-row_combination ring (field_ring prime).modulus rows e.quotients))
+                ∙ ap (λ ts. row_sum ring ts (row_combination ring rows e.quotients)) (sym found.1)
                 ∙ e.sum;
           })
       | inr found ↦ inr found
@@ -110,7 +112,7 @@ module _ (ring : Ring) (prime : IsOverField ring) (target : List ℤ) (N : Vecto
               let vectors = monic_vectors rows monic in
               let d : ℤ = pair_degree ring prime target rows vectors i j i_in j_in positions in
               let inside : N (record { degree = d; terms = s_vector ring rows i j }) =
-              submodule.combinations rows (AllByRecursion-weaken _ _ (λ w k. k.0) rows monic) d (pair_terms ring.modulus (lead_at rows) i j) (pair_terms-homogeneous ring prime target rows vectors i j i_in j_in positions) in
+              submodule.combinations rows (AllByRecursion-weaken _ _ (λ w k. k.0) rows monic) d (s_coefficients ring.modulus (lead_at rows) i j) (s_coefficients-homogeneous ring prime target rows vectors i j i_in j_in positions) in
               elim (division_or_new (record { degree = d; terms = s_vector ring rows i j }) inside) [
                 | inl found ↦ inl (λ same. ReducesToZero-division ring prime target rows vectors i j i_in j_in positions found.0 found.1)
                 | inr found ↦ inr found

@@ -10,7 +10,8 @@ use Rattle.sf_algebra.specs.Primes.{IsPrime}
 use Rattle.sf_algebra.specs.Rings.{Ring, IsRing, IsOverField}
 use Rattle.sf_algebra.specs.Sums.{add}
 use Rattle.sf_algebra.specs.Terms.{Term, IsCanonical}
-use Rattle.sf_algebra.specs.Vectors.{Place, Vector, place_cmp, IsHomogeneous, IsVector}
+use Rattle.sf_algebra.specs.VectorOperations.{row_sum, row_multiple}
+use Rattle.sf_algebra.specs.Vectors.{Place, Vector, place_cmp, IsHomogeneous, IsVector, IsCanonicalRow}
 use Rattle.sf_algebra.proofs.Coefficients.{IsCanonical-tail}
 use Rattle.sf_algebra.proofs.Degrees.{degrees_of, IsHomogeneous-row_combination}
 use Rattle.sf_algebra.proofs.HomogeneousVectors.{IsVector-add, IsVector-negative, IsVector-nil}
@@ -19,15 +20,16 @@ use Rattle.sf_algebra.proofs.Lists.{AllByRecursion-append, AllByRecursion-weaken
 use Rattle.sf_algebra.proofs.Negatives.{EachPlace-negative}
 use Rattle.sf_algebra.proofs.Normal.{EachPlace-add, IsAboveEach}
 use Rattle.sf_algebra.proofs.Orders.{place_cmp_linear, place_cmp_total}
+use Rattle.sf_algebra.proofs.RowSums.{row_sum-assoc, row_sum-nil_first}
 use Rattle.sf_algebra.proofs.Rows.{IsCanonical-row_combination, row_combination-append, row_combination-nil}
 use Rattle.sf_algebra.proofs.Sums.{add_assoc, add-nil_first}
-use Rattle.sf_groebner.specs.Criterion.{lead_at, HasImageBelow}
+use Rattle.sf_groebner.specs.Criterion.{lead_at, HasMultipleBelow}
 use Rattle.sf_groebner.specs.Leads.{PlaceDivides}
 use Rattle.sf_groebner.specs.ReducedBases.{is_divided, IsReducedBy}
 use Rattle.sf_algebra.proofs.Weights.{field_ring}
 use Rattle.sf_groebner.proofs.Accessible.{IsBelow}
 use Rattle.sf_groebner.proofs.Differences.{add-negative_first}
-use Rattle.sf_groebner.proofs.MonicVectors.{IsMonicVector, IsTermOfDegree-step, image-step, is_divided-position, monic_homogeneous, row_multiple, step}
+use Rattle.sf_groebner.proofs.MonicVectors.{IsMonicVector, IsTermOfDegree-step, lead_multiple-step, is_divided-position, monic_homogeneous, step, multiple_at}
 use Rattle.sf_groebner.proofs.Standard.{place_induction}
 use Rattle.sf_groebner.proofs.Subtractions.{add-first, add-negative_back}
 
@@ -38,8 +40,8 @@ pub record Division (ring : Ring) (target : List ℤ) (rows : List Vector) (v : 
   pub vector : IsVector ring target (record { degree = v.degree; terms = rest })
   pub homogeneous : IsHomogeneous ring.weights (degrees_of rows) v.degree quotients
   pub free : IsReducedBy rows rest
-  pub below : (b : Place) → IsAboveEach (place_cmp ring.weights) b v.terms → IsAboveEach (place_cmp ring.weights) b rest × AllByRecursion (HasImageBelow ring.weights rows b) quotients
-  pub sum : add (place_cmp ring.weights) ring.modulus rest (row_combination ring rows quotients) ≡ v.terms
+  pub below : (b : Place) → IsAboveEach (place_cmp ring.weights) b v.terms → IsAboveEach (place_cmp ring.weights) b rest × AllByRecursion (HasMultipleBelow ring.weights rows b) quotients
+  pub sum : row_sum ring rest (row_combination ring rows quotients) ≡ v.terms
 
 -- a homogeneous list of one degree
 abbrev of_degree : ℤ → List (Term Place) → Vector
@@ -60,7 +62,7 @@ module _ (ring : Ring) (prime : IsOverField ring) (target : List ℤ) (rows : Li
     homogeneous = tt;
     free = tt;
     below = λ b h. (tt, tt);
-    sum = ap (add (place_cmp ring.weights) ring.modulus []) (row_combination-nil ring positive.modulus rows) ∙ add-nil_first (place_cmp ring.weights) (place_cmp_linear ring.weights) ring.modulus positive.modulus [] (record { descending = tt; residues = tt });
+    sum = ap (row_sum ring []) (row_combination-nil ring positive.modulus rows) ∙ row_sum-nil_first ring positive.modulus [] (record { descending = tt; residues = tt });
   }
 
   -- where no lead divides the first term
@@ -84,15 +86,15 @@ module _ (ring : Ring) (prime : IsOverField ring) (target : List ℤ) (rows : Li
       → ((us : List (Term Place)) → IsVector ring target (of_degree d us) → IsAboveEach (place_cmp ring.weights) t.at us → Division ring target rows (of_degree d us))
       → Division ring target rows (of_degree d (t ∷ ts))
   divide_hit t ts h i within divides further =
-      let times = row_multiple ring target rows monic prime i within t h.canonical.residues.0 divides in
+      let times = multiple_at ring target rows monic prime i within t h.canonical.residues.0 divides in
       let us = times.0 in
       let term = IsTermOfDegree-step ring target rows monic i within d t divides h.homogeneous.0 in
-      let canonical : IsCanonical (place_cmp ring.weights) ring.modulus (t ∷ us) = subst (IsCanonical (place_cmp ring.weights) ring.modulus) times.1 (IsCanonical-row_combination ring positive.modulus rows (step rows i t ∷ [])) in
+      let canonical : IsCanonicalRow ring (t ∷ us) = subst (IsCanonicalRow ring) times.1 (IsCanonical-row_combination ring positive.modulus rows (step rows i t ∷ [])) in
       let vector : IsVector ring target (of_degree d (t ∷ us)) = record {
         canonical = canonical;
         homogeneous = subst (IsHomogeneous ring.weights target d) times.1 (IsHomogeneous-row_combination target ring rows (monic_homogeneous ring target rows monic) d (step rows i t ∷ []) (term, tt));
       } in
-      let left = add (place_cmp ring.weights) ring.modulus ts (negative ring.modulus us) in
+      let left = row_sum ring ts (negative ring.modulus us) in
       let left_vector : IsVector ring target (of_degree d left) =
       IsVector-add ring target positive.modulus d ts (negative ring.modulus us) (IsVector-tail ring target d t ts h) (IsVector-negative ring target d us (IsVector-tail ring target d t us vector)) in
       let left_below : IsAboveEach (place_cmp ring.weights) t.at left =
@@ -109,12 +111,12 @@ module _ (ring : Ring) (prime : IsOverField ring) (target : List ℤ) (rows : Li
             AllByRecursion-weaken _ _ (λ u less. (place_cmp_total ring.weights).trans u.at t.at b less above.0) left left_below in
             let others = e.below b bound in (
               others.0,
-              AllByRecursion-append _ e.quotients (step rows i t ∷ []) others.1 ((within, ap (λ k. place_cmp ring.weights k b) (image-step rows i t divides) ∙ above.0), tt),
+              AllByRecursion-append _ e.quotients (step rows i t ∷ []) others.1 ((within, ap (λ k. place_cmp ring.weights k b) (lead_multiple-step rows i t divides) ∙ above.0), tt),
             );
         sum =
-            ap (add (place_cmp ring.weights) ring.modulus e.rest) (row_combination-append ring positive.modulus rows e.quotients (step rows i t ∷ []))
-            ∙ sym (add_assoc (place_cmp ring.weights) (place_cmp_linear ring.weights) ring.modulus positive.modulus e.rest (row_combination ring rows e.quotients) (row_combination ring rows (step rows i t ∷ [])))
-            ∙ (λ j. add (place_cmp ring.weights) ring.modulus ((e.sum ∙ sym (add-negative_first (place_keys ring.weights) ring.modulus positive.modulus t ts us h.canonical canonical)) j) (times.1 j))
+            ap (row_sum ring e.rest) (row_combination-append ring positive.modulus rows e.quotients (step rows i t ∷ []))
+            ∙ sym (row_sum-assoc ring positive.modulus e.rest (row_combination ring rows e.quotients) (row_combination ring rows (step rows i t ∷ [])))
+            ∙ (λ j. row_sum ring ((e.sum ∙ sym (add-negative_first (place_keys ring.weights) ring.modulus positive.modulus t ts us h.canonical canonical)) j) (times.1 j))
             ∙ add-negative_back (place_keys ring.weights) ring.modulus positive.modulus (t ∷ ts) (t ∷ us) h.canonical canonical;
       }
 

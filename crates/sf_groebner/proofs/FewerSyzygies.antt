@@ -6,7 +6,7 @@ use Rattle.sf_algebra.specs.MatrixOperations.{row_at, row_combination}
 use Rattle.sf_algebra.specs.Rings.{Ring, IsRing}
 use Rattle.sf_algebra.specs.Terms.{Term}
 use Rattle.sf_algebra.specs.Vectors.{Place, Vector}
-use Rattle.sf_groebner.specs.Criterion.{HaveLeadsAtOnePosition, IsForRows, IsMonicRow, IsPairSyzygy, lead_at, pair_place, pair_terms}
+use Rattle.sf_groebner.specs.Criterion.{HaveLeadsAtOnePosition, IsForRows, IsMonicRow, IsPairSyzygy, lead_at, pair_place, s_coefficients}
 use Rattle.sf_groebner.proofs.Buchberger.{IsInside}
 use Rattle.sf_groebner.proofs.HandledPairs.{IsChained, IsEarlierPair, IsHandled, IsHandled-either}
 use Rattle.sf_groebner.proofs.Images.{IsSettled}
@@ -27,7 +27,7 @@ module _ (ring : Ring) (positive : IsRing ring) (rows zs : List Vector) where
   IsSettled-syzygy i j positions found =
       settled-syzygy ring positive rows (IsInside rows) (lead_at rows) i j positions (IsSpanned ring zs) found.2.steps (row_at zs found.0) found.2.below
       (IsSpanned-row ring positive zs found.0 found.1)
-      (SameTotals-from_sum ring (row_at zs found.0) found.2.steps (pair_terms ring.modulus (lead_at rows) i j) found.2.sum)
+      (SameTotals-from_sum ring (row_at zs found.0) found.2.steps (s_coefficients ring.modulus (lead_at rows) i j) found.2.sum)
 
   -- the pairs that were handled, each by a syzygy or by the chain criterion, are settled
   IsHandled-settled : (handled : List (ℕ × ℕ)) → IsHandled (HasPairSyzygy ring rows zs) rows handled → IsHandled IsSettledBySyzygies rows handled

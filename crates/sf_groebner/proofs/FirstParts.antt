@@ -1,14 +1,15 @@
 -- The first and the last parts of a module's vectors, by a position that parts them.
 use Rattle.std.proofs.Common.{◌≡◌, Bool, true, false, not, ℕ, ◌<◌, List, [], ◌∷◌, length, slice_range, refl, sym, ◌∙◌, ap, subst, ℤ, arith}
 use Rattle.std.specs.List.{AllByRecursion}
-use Rattle.sf_algebra.specs.MatrixOperations.{part_terms}
+use Rattle.sf_algebra.specs.MatrixOperations.{part_terms, vector_part}
 use Rattle.sf_algebra.specs.Rings.{Ring, IsRing}
 use Rattle.sf_algebra.specs.Terms.{Term, IsDescending}
+use Rattle.sf_algebra.specs.VectorOperations.{vector_difference}
 use Rattle.sf_algebra.specs.Vectors.{Place, Vector, place_cmp, IsVector}
 use Rattle.sf_algebra.proofs.PartTerms.{IsVector-part_terms}
-use Rattle.sf_groebner.specs.Cuts.{has_terms, part_of, has_first_part, first_parts, last_parts}
+use Rattle.sf_groebner.specs.Cuts.{has_terms, has_first_part, first_parts, last_parts}
 use Rattle.sf_groebner.specs.ReducedBases.{IsReducedBasis}
-use Rattle.sf_groebner.proofs.Modules.{difference, IsModuleLike}
+use Rattle.sf_groebner.proofs.Modules.{IsModuleLike}
 use Rattle.sf_groebner.proofs.PartSums.{part_terms-difference}
 use Rattle.sf_groebner.proofs.PartLeads.{has_terms-first, has_terms-later, has_terms-position, has_no_terms-position, has_terms-none}
 use Rattle.sf_groebner.proofs.ReducedParts.{IsPart, reduced_part}
@@ -19,7 +20,7 @@ module _ (ring : Ring) (degrees : List ℤ) (N : Vector → Type 0) (vectors : (
 
   -- v is the part of a vector of the module at the first n positions
   abbrev pub IsFirstPart : Vector → Type 0
-  IsFirstPart v = (w : Vector) × N w × (part_of 0 n w ≡ v)
+  IsFirstPart v = (w : Vector) × N w × (vector_part 0 n w ≡ v)
 
   pub first_part : IsPart 0 n (has_first_part n) N IsFirstPart
   first_part = record {
@@ -34,19 +35,19 @@ module _ (ring : Ring) (degrees : List ℤ) (N : Vector → Type 0) (vectors : (
   reduced-first_parts basis h = reduced_part 0 n (has_first_part n) N IsFirstPart first_part ring.weights basis h
 
   -- differences of first parts are first parts
-  pub first_part_module : IsRing ring → ((u v : Vector) → N u → N v → u.degree ≡ v.degree → N (difference ring u v)) → IsModuleLike ring (slice_range degrees 0 n) IsFirstPart
+  pub first_part_module : IsRing ring → ((u v : Vector) → N u → N v → u.degree ≡ v.degree → N (vector_difference ring u v)) → IsModuleLike ring (slice_range degrees 0 n) IsFirstPart
   first_part_module positive differences = record {
     vectors = λ v h. subst (IsVector ring (slice_range degrees 0 n)) h.2 (IsVector-part_terms ring degrees 0 n h.0 (vectors h.0 h.1));
     differences = λ u v h k e. (
-      difference ring h.0 k.0,
+      vector_difference ring h.0 k.0,
       differences h.0 k.0 h.1 k.1 (ap (λ x. x.degree) h.2 ∙ e ∙ sym (ap (λ x. x.degree) k.2)),
-      (λ i. record { degree = h.0.degree; terms = part_terms-difference ring 0 n positive h.0.terms k.0.terms i }) ∙ (λ i. difference ring (h.2 i) (k.2 i)),
+      (λ i. record { degree = h.0.degree; terms = part_terms-difference ring 0 n positive h.0.terms k.0.terms i }) ∙ (λ i. vector_difference ring (h.2 i) (k.2 i)),
     );
   }
 
   -- v is the part behind, of a vector of the module that has no term at the first n positions
   abbrev pub IsLastPart : Vector → Type 0
-  IsLastPart v = (w : Vector) × N w × (part_terms 0 n w.terms ≡ []) × (part_of n (length degrees) w ≡ v)
+  IsLastPart v = (w : Vector) × N w × (part_terms 0 n w.terms ≡ []) × (vector_part n (length degrees) w ≡ v)
 
   not_true : (b : Bool) → not b ≡ true → b ≡ false
   not_true true e = cc

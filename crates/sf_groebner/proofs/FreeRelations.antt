@@ -10,7 +10,7 @@ use Rattle.sf_algebra.proofs.MatrixRows.{IsWithin}
 use Rattle.sf_algebra.proofs.ProductParts.{combination-no_rows}
 use Rattle.sf_groebner.specs.MinimalGenerators.{matrix_of}
 use Rattle.sf_groebner.specs.Presentations.{IsRelation}
-use Rattle.sf_groebner.specs.ReducedBases.{HasDividedLead, IsReducedBasis}
+use Rattle.sf_groebner.specs.ReducedBases.{HasDividedLead, IsReducedBasis, IsSyzygyBasis}
 use Rattle.sf_groebner.specs.Spans.{InSpan, IsSyzygy}
 use Rattle.sf_groebner.proofs.GraphParts.{IsWithin-coefficients}
 use Rattle.sf_groebner.proofs.SameModules.{IsReducedBasis-same}
@@ -50,5 +50,5 @@ module _ (m : Matrix) (positive : IsRing m.ring) (target : List ℤ) where
   syzygy_from_relation c h = record { coefficients = h.coefficients; zero = span-no_rows m.ring positive target _ h.inside }
 
   -- relations modulo no rows are syzygies
-  pub reduced-free_relations : (basis : List Vector) → IsReducedBasis m.ring.weights (IsSyzygy m) basis → IsReducedBasis m.ring.weights (IsRelation m (InSpan (matrix_of m.ring target []))) basis
+  pub reduced-free_relations : (basis : List Vector) → IsSyzygyBasis m basis → IsReducedBasis m.ring.weights (IsRelation m (InSpan (matrix_of m.ring target []))) basis
   reduced-free_relations basis h = IsReducedBasis-same m.ring.weights (IsSyzygy m) (IsRelation m (InSpan (matrix_of m.ring target []))) relation_from_syzygy syzygy_from_relation basis h

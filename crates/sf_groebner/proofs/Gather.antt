@@ -14,7 +14,7 @@ use Rattle.sf_algebra.proofs.Orders.{ordering_cases, place_cmp-Equal}
 use Rattle.sf_algebra.proofs.Residues.{sum_mod-assoc, sum_mod-first, sum_mod-zero, sum_mod-zero_first}
 use Rattle.sf_algebra.proofs.SameTotals.{SameTotals, SameTotals-append, SameTotals-equal, SameTotals-products, SameTotals-refl, SameTotals-sym, SameTotals-trans}
 use Rattle.sf_algebra.proofs.Totals.{total-append, total-cons, total-nil, total-reduced}
-use Rattle.sf_groebner.specs.Criterion.{image}
+use Rattle.sf_groebner.specs.Criterion.{lead_multiple}
 use Rattle.sf_groebner.proofs.Exchanges.{sum_mod-left_comm}
 use Rattle.sf_groebner.proofs.Multiplied.{EachPlace-constant, SameTotals-constant, constant_term}
 use Rattle.sf_groebner.proofs.Images.{IsAllSettled, IsAtMost, IsModule, IsSettled, IsUnder, at_place, top_part}
@@ -52,7 +52,7 @@ module _ (ring : Ring) (In : Place → Type 0) (lead : ℕ → Place) (S : List 
   }
 
   -- a term with the image b
-  gather_equal : (t : Term Place) (c : List (Term Place)) (y : ℕ) → IsSettled ring In lead S t.at r → image lead r ≡ b → IsGathered ring In lead S r b c y
+  gather_equal : (t : Term Place) (c : List (Term Place)) (y : ℕ) → IsSettled ring In lead S t.at r → lead_multiple lead r ≡ b → IsGathered ring In lead S r b c y
       → IsGathered ring In lead S r b (t ∷ c) (sum_mod ring.modulus t.coefficient y)
   gather_equal t c y s e k =
       let x = t.coefficient in
@@ -101,12 +101,12 @@ module _ (ring : Ring) (In : Place → Type 0) (lead : ℕ → Place) (S : List 
           sorted : (gx gy te tu td ts : ℕ) → sum_mod ring.modulus (sum_mod ring.modulus gx (sum_mod ring.modulus te tu)) (sum_mod ring.modulus td (sum_mod ring.modulus gy ts)) ≡ sum_mod ring.modulus (sum_mod ring.modulus te td) (sum_mod ring.modulus (sum_mod ring.modulus gx gy) (sum_mod ring.modulus tu ts))
           sorted gx gy te tu td ts = simp (sum_mod-assoc, sum_mod-left_comm)
 
-  pub gather : IsAllSettled ring In lead S → In r → image lead r ≡ b → (c : List (Term Place)) → EachPlace (IsAtMost ring.weights In lead b) c → IsGathered ring In lead S r b c (total ring.modulus (top_part ring.weights lead b) c)
+  pub gather : IsAllSettled ring In lead S → In r → lead_multiple lead r ≡ b → (c : List (Term Place)) → EachPlace (IsAtMost ring.weights In lead b) c → IsGathered ring In lead S r b c (total ring.modulus (top_part ring.weights lead b) c)
   gather settled inside e [] h = subst (IsGathered ring In lead S r b []) (sym (total-nil ring.modulus (top_part ring.weights lead b))) gather_none
   gather settled inside e (t ∷ c) h =
       let rest = gather settled inside e c h.1 in
       let top = top_part ring.weights lead b in
-      ordering_cases (place_cmp ring.weights (image lead t.at) b)
+      ordering_cases (place_cmp ring.weights (lead_multiple lead t.at) b)
       (λ less.
       subst (IsGathered ring In lead S r b (t ∷ c))
       (sym (total-cons ring.modulus top t c ∙ ap (λ o. sum_mod ring.modulus (if is_eq o then t.coefficient else 0) (total ring.modulus top c)) less ∙ sum_mod-zero_first ring.modulus _ ∙ total-reduced ring.modulus top c))

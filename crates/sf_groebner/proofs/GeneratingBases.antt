@@ -4,8 +4,10 @@ use Rattle.sf_algebra.specs.MatrixOperations.{row_combination}
 use Rattle.sf_algebra.specs.Primes.{IsPrime}
 use Rattle.sf_algebra.specs.Rings.{Ring, IsRing, IsOverField}
 use Rattle.sf_algebra.specs.Sums.{add}
+use Rattle.sf_algebra.specs.VectorOperations.{row_sum}
 use Rattle.sf_algebra.specs.Vectors.{Vector, place_cmp}
 use Rattle.sf_algebra.proofs.Orders.{place_cmp_linear}
+use Rattle.sf_algebra.proofs.RowSums.{row_sum-nil_first}
 use Rattle.sf_algebra.proofs.Rows.{IsCanonical-row_combination}
 use Rattle.sf_algebra.proofs.Sums.{add-nil_first}
 use Rattle.sf_groebner.specs.MinimalGenerators.{IsInSum, matrix_of, AreKept, AreMinimal}
@@ -32,8 +34,8 @@ module _ (ring : Ring) (prime : IsOverField ring) (target : List ℤ) (N : Vecto
       record {
         coefficients = e.quotients;
         homogeneous = e.homogeneous;
-        value = sym (add-nil_first (place_cmp ring.weights) (place_cmp_linear ring.weights) ring.modulus positive.modulus (row_combination ring basis e.quotients) (IsCanonical-row_combination ring positive.modulus basis e.quotients))
-            ∙ ap (λ ts. add (place_cmp ring.weights) ring.modulus ts (row_combination ring basis e.quotients)) (sym none)
+        value = sym (row_sum-nil_first ring positive.modulus (row_combination ring basis e.quotients) (IsCanonical-row_combination ring positive.modulus basis e.quotients))
+            ∙ ap (λ ts. row_sum ring ts (row_combination ring basis e.quotients)) (sym none)
             ∙ e.sum;
       }
 
@@ -70,7 +72,7 @@ module _ (ring : Ring) (prime : IsOverField ring) (target : List ℤ) (N B : Vec
         in_span = c;
         first_degree = refl;
         second_degree = refl;
-        sum = add-nil_first (place_cmp ring.weights) (place_cmp_linear ring.weights) ring.modulus positive.modulus v.terms (submodule.module_like.vectors v h).canonical;
+        sum = row_sum-nil_first ring positive.modulus v.terms (submodule.module_like.vectors v h).canonical;
       } in
       IsSumAt-to ring target B generators v ((AreKept-sums ring positive target B closed minimal.basis generators minimal.kept).to v.degree v.terms (IsSumAt-from ring target B minimal.basis v whole))
 

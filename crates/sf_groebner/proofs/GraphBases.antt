@@ -14,12 +14,12 @@ use Rattle.sf_algebra.proofs.ProductParts.{part_terms-row_combination}
 use Rattle.sf_algebra.proofs.Stacks.{degrees-with_terms}
 use Rattle.sf_algebra.proofs.UnitRows.{row_combination-unit_rows}
 use Rattle.sf_groebner.specs.Criterion.{HaveLeadsAtOnePosition, IsForRows, IsMonicRow, ReducesToZero}
-use Rattle.sf_groebner.specs.ReducedBases.{HasDividedLead, IsApart, IsMonic, IsReducedBasis, IsSorted}
+use Rattle.sf_groebner.specs.ReducedBases.{HasDividedLead, IsApart, IsMonic, IsReducedBasis, IsSorted, IsGraphBasis}
 use Rattle.sf_groebner.specs.Spans.{IsCoefficients, graph_degrees, value_terms, coefficient_terms, IsGraphVector}
 use Rattle.sf_groebner.proofs.Buchberger.{buchberger}
 use Rattle.sf_groebner.proofs.GraphParts.{IsWithin-IsVector, IsWithin-coefficients, length-graph_degrees, graph_coefficients}
 use Rattle.sf_groebner.proofs.GrowingRows.{length-more, row_combination-more_rows}
-use Rattle.sf_groebner.proofs.PairedVectors.{pair_terms, pair_terms-parts}
+use Rattle.sf_groebner.proofs.PairedVectors.{paired_terms, paired_terms-parts}
 
 -- what is asked of the list: the graph's own rows, then more
 pub record IsGraphCandidate (m : Matrix) (rows more : List Vector) : Type 0 where
@@ -75,9 +75,9 @@ module _ (m : Matrix) (positive : IsRing m.ring) (rows more : List Vector) (h : 
     -- a vector of the graph is the combination of the first rows with its coefficients
     combination-graph : combination ≡ w.terms
     combination-graph =
-        sym (pair_terms-parts m.ring.weights (length m.target) (length m.rows) combination IsVector-combination.canonical.descending (within _ IsVector-combination))
-        ∙ (λ i. pair_terms (length m.target) (value_terms-combination i) (coefficient_terms-combination i))
-        ∙ pair_terms-parts m.ring.weights (length m.target) (length m.rows) w.terms of_graph.vector.canonical.descending (within w of_graph.vector)
+        sym (paired_terms-parts m.ring.weights (length m.target) (length m.rows) combination IsVector-combination.canonical.descending (within _ IsVector-combination))
+        ∙ (λ i. paired_terms (length m.target) (value_terms-combination i) (coefficient_terms-combination i))
+        ∙ paired_terms-parts m.ring.weights (length m.target) (length m.rows) w.terms of_graph.vector.canonical.descending (within w of_graph.vector)
 
     for_rows : AllByRecursion (IsForRows rows) own
     for_rows = IsWithin-coefficients over_graph (record { degree = w.degree; terms = own }) IsCoefficients-over_graph
@@ -88,7 +88,7 @@ module _ (m : Matrix) (positive : IsRing m.ring) (rows more : List Vector) (h : 
         (buchberger m.ring positive (rows ++ more) h.monic h.pairs own
         (AllByRecursion-weaken _ _ (λ t k. length-more rows more t.at.position k) own for_rows))
 
-  pub reduced_graph : IsReducedBasis m.ring.weights (IsGraphVector m) (rows ++ more)
+  pub reduced_graph : IsGraphBasis m (rows ++ more)
   reduced_graph = record {
     inside = h.inside;
     monic = AllByRecursion-weaken (IsMonicRow m.ring) (λ v. IsMonic v.terms) (λ v k. k.monic) (rows ++ more) h.monic;

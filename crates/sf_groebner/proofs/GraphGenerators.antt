@@ -8,7 +8,8 @@ use Rattle.sf_algebra.specs.MatrixOperations.{moved, part_terms, row_at, row_com
 use Rattle.sf_algebra.specs.Rings.{IsRing}
 use Rattle.sf_algebra.specs.Sums.{add}
 use Rattle.sf_algebra.specs.Terms.{Term, IsCanonical}
-use Rattle.sf_algebra.specs.Vectors.{Place, Vector, place_cmp, IsHomogeneous, IsVector}
+use Rattle.sf_algebra.specs.VectorOperations.{row_sum}
+use Rattle.sf_algebra.specs.Vectors.{Place, Vector, place_cmp, IsHomogeneous, IsVector, IsCanonicalRow}
 use Rattle.sf_algebra.proofs.Degrees.{degrees_of, IsHomogeneous-row_combination}
 use Rattle.sf_algebra.proofs.HomogeneousVectors.{IsVector-row_combination}
 use Rattle.sf_algebra.proofs.Identities.{IsMatrix-identity, degrees-unit_rows, length-unit_rows}
@@ -16,6 +17,7 @@ use Rattle.sf_algebra.proofs.Lists.{AllByRecursion-weaken}
 use Rattle.sf_algebra.proofs.MatrixRows.{IsWithin, with_terms}
 use Rattle.sf_algebra.proofs.Orders.{place_cmp_linear}
 use Rattle.sf_algebra.proofs.ProductParts.{part_terms-row_combination}
+use Rattle.sf_algebra.proofs.RowSums.{row_sum-nil}
 use Rattle.sf_algebra.proofs.Rows.{IsCanonical-row_combination, row_at-map, row_at-past, row_combination-add_rows, row_combination-matrix_product, row_combination-nil}
 use Rattle.sf_algebra.proofs.Stacks.{AllByRecursion-map, degrees-with_terms, with_terms-each, with_terms-with_terms}
 use Rattle.sf_algebra.proofs.Sums.{add-nil}
@@ -26,14 +28,14 @@ use Rattle.sf_groebner.proofs.AddedParts.{add-canonical_append, add-parts, row_c
 use Rattle.sf_groebner.proofs.Generators.{AreGenerators, IsCombination}
 use Rattle.sf_groebner.proofs.GraphParts.{IsGraphVector-graph_of, graph_coefficients, length-graph_degrees}
 use Rattle.sf_groebner.proofs.MonicVectors.{AllByRecursion-row_at}
-use Rattle.sf_groebner.proofs.PairedVectors.{IsCanonical-pair, pair_terms}
+use Rattle.sf_groebner.proofs.PairedVectors.{IsCanonical-pair, paired_terms}
 use Rattle.sf_groebner.proofs.Spans.{graph_module}
 use Rattle.sf_groebner.proofs.Submodules.{IsSubmodule}
 
 module _ (m : Matrix) (positive : IsRing m.ring) (above : 1 < m.ring.modulus) (matrix : IsMatrix m) where
   -- the terms of the vector of the graph with given coefficients
   abbrev graph_terms : List (Term Place) → List (Term Place)
-  graph_terms c = pair_terms (length m.target) (row_combination m.ring m.rows c) c
+  graph_terms c = paired_terms (length m.target) (row_combination m.ring m.rows c) c
 
   -- each row with the unit vector of its position behind it
   abbrev pub graph_rows : List Vector
@@ -50,7 +52,7 @@ module _ (m : Matrix) (positive : IsRing m.ring) (above : 1 < m.ring.modulus) (m
   length-row_degrees : length (row_degrees m) ≡ length m.rows
   length-row_degrees = length-map m.rows (λ (v : Vector). v.degree)
 
-  row_at-graph_rows : (i : ℕ) → row_at graph_rows i ≡ add (place_cmp m.ring.weights) m.ring.modulus (row_at m.rows i) (row_at (unit_rows (length m.target) (row_degrees m)) i)
+  row_at-graph_rows : (i : ℕ) → row_at graph_rows i ≡ row_sum m.ring (row_at m.rows i) (row_at (unit_rows (length m.target) (row_degrees m)) i)
   row_at-graph_rows i =
       row_at-map graph_terms (ap (λ us. us ++ []) (row_combination-nil m.ring positive.modulus m.rows)) (unit_rows 0 (row_degrees m)) i
       ∙ elim (cases_lt i (length m.rows)) [
@@ -60,18 +62,18 @@ module _ (m : Matrix) (positive : IsRing m.ring) (above : 1 < m.ring.modulus) (m
             let row = AllByRecursion-row_at (λ d ts. IsVector ring m.target (record { degree = d; terms = ts })) m.rows matrix i within in
             let inside : i < length (row_degrees m) = rw length-row_degrees within in
             let unit : List (Term Place) = unit_term i ∷ [] in
-            let unit_canonical : IsCanonical (place_cmp ring.weights) ring.modulus unit = record { descending = (tt, tt); residues = ((omega arith, above), tt) } in
+            let unit_canonical : IsCanonicalRow ring unit = record { descending = (tt, tt); residues = ((omega arith, above), tt) } in
             let pair = IsCanonical-pair ring n (row_at m.rows i) unit (AllByRecursion-weaken _ _ (λ t h. h.0) (row_at m.rows i) row.homogeneous) row.canonical unit_canonical in
             ap graph_terms (row_at-unit_rows (row_degrees m) 0 i inside ∙ ap (λ j. unit_term j ∷ []) (zero-add i))
             ∙ ap (λ us. us ++ moved n unit) (row_combination-unit ring positive.modulus m.rows i row.canonical)
             ∙ sym (add-canonical_append ring positive (row_at m.rows i) (moved n unit) pair)
-            ∙ ap (add (place_cmp ring.weights) ring.modulus (row_at m.rows i)) (sym (row_at-unit_rows (row_degrees m) n i inside))
+            ∙ ap (row_sum ring (row_at m.rows i)) (sym (row_at-unit_rows (row_degrees m) n i inside))
         | inr past ↦
             let none : (from : ℕ) → row_at (unit_rows from (row_degrees m)) i ≡ [] = λ from. row_at-past (unit_rows from (row_degrees m)) i (rw (length-unit_rows, length-row_degrees) past) in
             ap graph_terms (none 0)
             ∙ ap (λ us. us ++ []) (row_combination-nil m.ring positive.modulus m.rows)
-            ∙ sym (add-nil (place_cmp m.ring.weights) (place_cmp_linear m.ring.weights) m.ring.modulus positive.modulus [] (record { descending = tt; residues = tt }))
-            ∙ (λ j. add (place_cmp m.ring.weights) m.ring.modulus (sym (row_at-past m.rows i past) j) (sym (none (length m.target)) j))
+            ∙ sym (row_sum-nil m.ring positive.modulus [] (record { descending = tt; residues = tt }))
+            ∙ (λ j. row_sum m.ring (sym (row_at-past m.rows i past) j) (sym (none (length m.target)) j))
       ]
 
   graph_rows-spans : (w : Vector) → IsGraphVector m w → IsCombination m.ring graph_rows w
@@ -85,7 +87,7 @@ module _ (m : Matrix) (positive : IsRing m.ring) (above : 1 < m.ring.modulus) (m
         homogeneous = subst (λ ds. IsHomogeneous m.ring.weights ds w.degree c) (sym degrees-graph_rows) vector.homogeneous;
         value =
             row_combination-add_rows ring positive.modulus graph_rows m.rows (unit_rows n (row_degrees m)) row_at-graph_rows c
-            ∙ (λ i. add (place_cmp ring.weights) ring.modulus (sym h.value i) (row_combination-unit_rows_from ring positive n (row_degrees m) c vector.canonical (AllByRecursion-weaken _ _ (λ t k. k.0) c vector.homogeneous) i))
+            ∙ (λ i. row_sum ring (sym h.value i) (row_combination-unit_rows_from ring positive n (row_degrees m) c vector.canonical (AllByRecursion-weaken _ _ (λ t k. k.0) c vector.homogeneous) i))
             ∙ add-parts ring positive n (length m.rows) w.terms h.vector.canonical (subst (λ l. IsWithin l w.terms) (length-graph_degrees m) (AllByRecursion-weaken _ _ (λ t k. k.0) w.terms h.vector.homogeneous));
       }
 

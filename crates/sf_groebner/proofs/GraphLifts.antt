@@ -2,13 +2,13 @@
 use Rattle.std.proofs.Common.{◌≡◌, true, not, ◌<◌, ◌+◌, List, [], ◌∷◌, filter, length, sym, ◌∙◌, ap, subst}
 use Rattle.std.specs.List.{AllByRecursion}
 use Rattle.sf_algebra.specs.Matrices.{Matrix}
-use Rattle.sf_algebra.specs.MatrixOperations.{part_terms}
+use Rattle.sf_algebra.specs.MatrixOperations.{part_terms, vector_part}
 use Rattle.sf_algebra.specs.Rings.{IsRing}
 use Rattle.sf_algebra.specs.Vectors.{Vector}
 use Rattle.sf_algebra.proofs.Filters.{AllByRecursion-filter_keeps, AllByRecursion-filter}
-use Rattle.sf_groebner.specs.Cuts.{part_of, has_first_part, last_parts}
+use Rattle.sf_groebner.specs.Cuts.{has_first_part, last_parts}
 use Rattle.sf_groebner.specs.Lifts.{IsLift}
-use Rattle.sf_groebner.specs.ReducedBases.{IsReducedBy, IsReducedBasis}
+use Rattle.sf_groebner.specs.ReducedBases.{IsReducedBy, IsReducedBasis, IsGraphBasis}
 use Rattle.sf_groebner.specs.Spans.{graph_degrees, IsGraphVector}
 use Rattle.sf_groebner.proofs.Apart.{IsApart-items}
 use Rattle.sf_groebner.proofs.FirstParts.{IsLastPart, last_part}
@@ -16,7 +16,7 @@ use Rattle.sf_groebner.proofs.GraphParts.{length-graph_degrees, graph_coefficien
 use Rattle.sf_groebner.proofs.Items.{IsItem, AllByRecursion-item, AllByRecursion-from_items, AllByRecursion-both}
 use Rattle.sf_groebner.proofs.ReducedParts.{elements, reduced_by-parts}
 
-module _ (m : Matrix) (positive : IsRing m.ring) (basis : List Vector) (h : IsReducedBasis m.ring.weights (IsGraphVector m) basis) where
+module _ (m : Matrix) (positive : IsRing m.ring) (basis : List Vector) (h : IsGraphBasis m basis) where
   coefficients-reduced : (w : Vector) → IsItem w basis → has_first_part (length m.target) w ≡ true
       → IsReducedBy (last_parts (length m.target) (length m.target + length m.rows) basis) (part_terms (length m.target) (length m.target + length m.rows) w.terms)
   coefficients-reduced w item first =
@@ -30,7 +30,7 @@ module _ (m : Matrix) (positive : IsRing m.ring) (basis : List Vector) (h : IsRe
       (AllByRecursion-from_items (λ v. keep v ≡ true → IsReducedBy (v ∷ []) w.terms) basis
       (λ v other kept. IsApart-items basis w v h.apart item other (λ same. let clash : keep w ≡ true = ap keep same ∙ kept in let no = sym (ap not first) ∙ clash in cc))))
 
-  graph_lift : (w : Vector) → IsItem w basis → has_first_part (length m.target) w ≡ true → IsLift m (part_of 0 (length m.target) w) (part_of (length m.target) (length m.target + length m.rows) w)
+  graph_lift : (w : Vector) → IsItem w basis → has_first_part (length m.target) w ≡ true → IsLift m (vector_part 0 (length m.target) w) (vector_part (length m.target) (length m.target + length m.rows) w)
   graph_lift w item first =
       let inside = AllByRecursion-item (IsGraphVector m) basis w h.inside item in
       record {
@@ -41,9 +41,9 @@ module _ (m : Matrix) (positive : IsRing m.ring) (basis : List Vector) (h : IsRe
         reduced = coefficients-reduced w item first;
       }
 
-  pub graph_lifts : AllByRecursion (λ w. IsLift m (part_of 0 (length m.target) w) (part_of (length m.target) (length m.target + length m.rows) w)) (filter (has_first_part (length m.target)) basis)
+  pub graph_lifts : AllByRecursion (λ w. IsLift m (vector_part 0 (length m.target) w) (vector_part (length m.target) (length m.target + length m.rows) w)) (filter (has_first_part (length m.target)) basis)
   graph_lifts =
-      let each = AllByRecursion-from_items (λ w. has_first_part (length m.target) w ≡ true → IsLift m (part_of 0 (length m.target) w) (part_of (length m.target) (length m.target + length m.rows) w)) basis graph_lift in
+      let each = AllByRecursion-from_items (λ w. has_first_part (length m.target) w ≡ true → IsLift m (vector_part 0 (length m.target) w) (vector_part (length m.target) (length m.target + length m.rows) w)) basis graph_lift in
       AllByRecursion-both _ (λ w. has_first_part (length m.target) w ≡ true) _ (λ w f k. f k) (filter (has_first_part (length m.target)) basis)
       (AllByRecursion-filter_keeps _ (has_first_part (length m.target)) basis each)
       (AllByRecursion-filter _ (has_first_part (length m.target)) basis (λ w k. k))

@@ -2,18 +2,18 @@
 use Rattle.std.proofs.Common.{◌≡◌, ℕ, ◌+◌, ◌<◌, List, [], length, refl, sym, ◌∙◌, ap, subst, ℤ, arith}
 use Rattle.std.proofs.lemmas.List.{length-append, length-map}
 use Rattle.sf_algebra.specs.Matrices.{Matrix, row_degrees, IsMatrix}
-use Rattle.sf_algebra.specs.MatrixOperations.{row_combination, part_terms}
+use Rattle.sf_algebra.specs.MatrixOperations.{row_combination, part_terms, vector_part}
 use Rattle.sf_algebra.specs.Rings.{Ring, IsRing}
 use Rattle.sf_algebra.specs.Vectors.{Vector, IsVector}
 use Rattle.sf_algebra.proofs.Lists.{AllByRecursion-weaken}
 use Rattle.sf_algebra.proofs.MatrixRows.{IsWithin}
 use Rattle.sf_algebra.proofs.PartTerms.{IsVector-part_terms}
 use Rattle.sf_algebra.proofs.Ranges.{slice_range-second}
-use Rattle.sf_groebner.specs.Cuts.{part_of, first_parts, last_parts}
-use Rattle.sf_groebner.specs.ReducedBases.{IsReducedBasis}
+use Rattle.sf_groebner.specs.Cuts.{first_parts, last_parts}
+use Rattle.sf_groebner.specs.ReducedBases.{IsReducedBasis, IsSpanBasis, IsSyzygyBasis, IsGraphBasis}
 use Rattle.sf_groebner.specs.Spans.{IsCoefficients, combined, InSpan, IsSyzygy, graph_degrees, value_terms, coefficient_terms, IsGraphVector}
 use Rattle.sf_groebner.proofs.FirstParts.{reduced-first_parts, reduced-last_parts}
-use Rattle.sf_groebner.proofs.PairedVectors.{pair_terms, part_terms-pair_first, part_terms-pair_last, IsVector-pair}
+use Rattle.sf_groebner.proofs.PairedVectors.{paired_terms, part_terms-pair_first, part_terms-pair_last, IsVector-pair}
 use Rattle.sf_groebner.proofs.SameModules.{IsReducedBasis-same}
 use Rattle.sf_groebner.proofs.Spans.{span_module}
 
@@ -29,19 +29,19 @@ module _ (m : Matrix) where
   length-graph_degrees = rw (length-append, length-map) refl
 
   -- the coefficients of a vector of the graph
-  pub graph_coefficients : (w : Vector) → IsGraphVector m w → IsCoefficients m (part_of (length m.target) (length m.target + length m.rows) w)
+  pub graph_coefficients : (w : Vector) → IsGraphVector m w → IsCoefficients m (vector_part (length m.target) (length m.target + length m.rows) w)
   graph_coefficients w h =
-      subst (λ ds. IsVector m.ring ds (part_of (length m.target) (length m.target + length m.rows) w))
+      subst (λ ds. IsVector m.ring ds (vector_part (length m.target) (length m.target + length m.rows) w))
       (slice_range-second m.target (row_degrees m) (length m.target) (length m.target + length m.rows) refl (rw length-map (omega arith)))
       (IsVector-part_terms m.ring (graph_degrees m) (length m.target) (length m.target + length m.rows) w h.vector)
 
   -- they give its value
-  pub graph_value : (w : Vector) → IsGraphVector m w → combined m (part_of (length m.target) (length m.target + length m.rows) w) ≡ part_of 0 (length m.target) w
+  pub graph_value : (w : Vector) → IsGraphVector m w → combined m (vector_part (length m.target) (length m.target + length m.rows) w) ≡ vector_part 0 (length m.target) w
   graph_value w h = λ i. record { degree = w.degree; terms = sym h.value i }
 
   -- the vector of the graph with these coefficients
   abbrev pub graph_of : Vector → Vector
-  graph_of c = record { degree = c.degree; terms = pair_terms (length m.target) (row_combination m.ring m.rows c.terms) c.terms }
+  graph_of c = record { degree = c.degree; terms = paired_terms (length m.target) (row_combination m.ring m.rows c.terms) c.terms }
 
   module _ (positive : IsRing m.ring) where
     abbrev pub IsValue : Vector → Type 0
@@ -61,10 +61,10 @@ module _ (m : Matrix) where
     }
 
     abbrev IsValuePart : Vector → Type 0
-    IsValuePart v = (w : Vector) × IsGraphVector m w × (part_of 0 (length m.target) w ≡ v)
+    IsValuePart v = (w : Vector) × IsGraphVector m w × (vector_part 0 (length m.target) w ≡ v)
 
     span_from_part : (v : Vector) → IsValuePart v → InSpan m v
-    span_from_part v h = (part_of (length m.target) (length m.target + length m.rows) h.0, graph_coefficients h.0 h.1, graph_value h.0 h.1 ∙ h.2)
+    span_from_part v h = (vector_part (length m.target) (length m.target + length m.rows) h.0, graph_coefficients h.0 h.1, graph_value h.0 h.1 ∙ h.2)
 
     part_from_span : IsMatrix m → (v : Vector) → InSpan m v → IsValuePart v
     part_from_span matrix v h =
@@ -72,13 +72,13 @@ module _ (m : Matrix) where
         (graph_of h.0, IsGraphVector-graph_of h.0 value h.1, (λ i. record { degree = h.0.degree; terms = graph_of-first h.0 value i }) ∙ h.2)
 
     -- the value parts of the rows of the graph's reduced basis
-    pub reduced-span : IsMatrix m → (basis : List Vector) → IsReducedBasis m.ring.weights (IsGraphVector m) basis → IsReducedBasis m.ring.weights (InSpan m) (first_parts (length m.target) basis)
+    pub reduced-span : IsMatrix m → (basis : List Vector) → IsGraphBasis m basis → IsSpanBasis m (first_parts (length m.target) basis)
     reduced-span matrix basis h =
         IsReducedBasis-same m.ring.weights IsValuePart (InSpan m) span_from_part (part_from_span matrix) (first_parts (length m.target) basis)
         (reduced-first_parts m.ring (graph_degrees m) (IsGraphVector m) (λ w k. k.vector) (length m.target) basis h)
 
     abbrev IsCoefficientPart : ℕ → Vector → Type 0
-    IsCoefficientPart end c = (w : Vector) × IsGraphVector m w × (part_terms 0 (length m.target) w.terms ≡ []) × (part_of (length m.target) end w ≡ c)
+    IsCoefficientPart end c = (w : Vector) × IsGraphVector m w × (part_terms 0 (length m.target) w.terms ≡ []) × (vector_part (length m.target) end w ≡ c)
 
     syzygy_from_part : (c : Vector) → IsCoefficientPart (length m.target + length m.rows) c → IsSyzygy m c
     syzygy_from_part c h =
@@ -91,8 +91,8 @@ module _ (m : Matrix) where
         (graph_of c, IsGraphVector-graph_of c value h.coefficients, graph_of-first c value ∙ h.zero, (λ i. record { degree = c.degree; terms = graph_of-last c value h.coefficients i }))
 
     -- the coefficient parts of the rows without a value part
-    pub reduced-syzygies : (basis : List Vector) → IsReducedBasis m.ring.weights (IsGraphVector m) basis
-        → IsReducedBasis m.ring.weights (IsSyzygy m) (last_parts (length m.target) (length m.target + length m.rows) basis)
+    pub reduced-syzygies : (basis : List Vector) → IsGraphBasis m basis
+        → IsSyzygyBasis m (last_parts (length m.target) (length m.target + length m.rows) basis)
     reduced-syzygies basis h =
         IsReducedBasis-same m.ring.weights (IsCoefficientPart (length m.target + length m.rows)) (IsSyzygy m) syzygy_from_part part_from_syzygy _
         (subst (λ end. IsReducedBasis m.ring.weights (IsCoefficientPart end) (last_parts (length m.target) end basis)) length-graph_degrees

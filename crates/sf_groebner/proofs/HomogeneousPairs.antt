@@ -4,11 +4,11 @@ use Rattle.std.specs.List.{AllByRecursion}
 use Rattle.sf_algebra.specs.Primes.{IsPrime}
 use Rattle.sf_algebra.specs.Rings.{Ring, IsRing, IsOverField}
 use Rattle.sf_algebra.specs.Terms.{Term}
-use Rattle.sf_algebra.specs.Vectors.{Place, Vector, term_degree, IsTermOfDegree, IsHomogeneous}
+use Rattle.sf_algebra.specs.Vectors.{Place, Vector, place_degree, IsTermOfDegree, IsHomogeneous}
 use Rattle.sf_algebra.proofs.Degrees.{degrees_of}
 use Rattle.sf_algebra.proofs.Divisors.{lcm-multiple}
 use Rattle.sf_algebra.proofs.Lists.{AllByRecursion-weaken}
-use Rattle.sf_groebner.specs.Criterion.{IsMonicRow, HaveLeadsAtOnePosition, ReducesToZero, lcm_place, lead_at, pair_terms, s_vector}
+use Rattle.sf_groebner.specs.Criterion.{IsMonicRow, HaveLeadsAtOnePosition, ReducesToZero, lcm_place, lead_at, s_coefficients, s_vector}
 use Rattle.sf_groebner.specs.Leads.{PlaceDivides}
 use Rattle.sf_algebra.proofs.Weights.{field_ring}
 use Rattle.sf_groebner.proofs.Divisions.{Division}
@@ -26,7 +26,7 @@ module _ (ring : Ring) (prime : IsOverField ring) (target : List ℤ) (rows : Li
 
   -- the degree of the S-vector
   abbrev pub pair_degree : ℤ
-  pair_degree = term_degree ring.weights target pair_lcm
+  pair_degree = place_degree ring.weights target pair_lcm.at
 
   divides_first : PlaceDivides (lead_at rows i) pair_lcm.at
   divides_first = (refl, (lcm-multiple (lead_at rows i).monomial (lead_at rows j).monomial).0)
@@ -46,8 +46,8 @@ module _ (ring : Ring) (prime : IsOverField ring) (target : List ℤ) (rows : Li
       let row = monic_row ring target rows monic i i_in in
       (subst (IsHomogeneous ring.weights target _) (IsMonic-shape _ row.monic) row.vector.homogeneous).0.0
 
-  pub pair_terms-homogeneous : IsHomogeneous ring.weights (degrees_of rows) pair_degree (pair_terms ring.modulus (lead_at rows) i j)
-  pair_terms-homogeneous = (
+  pub s_coefficients-homogeneous : IsHomogeneous ring.weights (degrees_of rows) pair_degree (s_coefficients ring.modulus (lead_at rows) i j)
+  s_coefficients-homogeneous = (
     IsTermOfDegree-step ring target rows monic i i_in pair_degree pair_lcm divides_first (lead_inside, refl),
     (
       IsTermOfDegree-step ring target rows monic j j_in pair_degree (record { at = lcm_place (lead_at rows) j i; coefficient = 1 }) divides_second

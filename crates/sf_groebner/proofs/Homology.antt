@@ -12,7 +12,7 @@ use Rattle.sf_groebner.proofs.Spans.{relation_module, span_module}
 use Rattle.sf_groebner.proofs.UniqueBases.{unique_reduced}
 
 module _ (ring : Ring) (positive : IsRing ring) where
-  -- a span, with the modulus as it is known
+  -- a span, with the ring as it is known
   pub span_of : (m : Matrix) → m.ring ≡ ring → IsMatrix m → IsModuleLike ring m.target (InSpan m)
   span_of m same matrix = subst (λ q. IsModuleLike q m.target (InSpan m)) same (span_module m (subst (λ q. IsRing q) (sym same) positive) matrix)
 

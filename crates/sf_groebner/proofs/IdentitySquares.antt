@@ -5,6 +5,7 @@ use Rattle.sf_algebra.specs.MatrixOperations.{identity}
 use Rattle.sf_algebra.specs.Multiples.{negative}
 use Rattle.sf_algebra.specs.Rings.{Ring, IsRing}
 use Rattle.sf_algebra.specs.Sums.{add}
+use Rattle.sf_algebra.specs.VectorOperations.{row_sum}
 use Rattle.sf_algebra.specs.Vectors.{Vector, place_cmp, IsVector}
 use Rattle.sf_algebra.proofs.HomogeneousVectors.{row_combination-identity}
 use Rattle.sf_algebra.proofs.Identities.{IsMatrix-identity, row_degrees-identity}
@@ -21,36 +22,36 @@ module _ (ring : Ring) (positive : IsRing ring) (above : 1 < ring.modulus) where
   combined-identity degrees v h = λ i. record { degree = v.degree; terms = row_combination-identity ring positive.modulus degrees v h i }
 
   pub square-identity : (relations map : Matrix) → relations.ring ≡ ring → IsMapInto relations map → IsSquare map relations map relations (identity ring (row_degrees map)) (identity ring relations.target)
-  square-identity relations map modulus into =
-      let map_modulus : map.ring ≡ ring = into.ring ∙ modulus in
-      let submodule : IsSubmodule ring relations.target (InSpan relations) = span_submodule_of ring positive relations.target relations modulus refl into.relations_matrix in
+  square-identity relations map same_ring into =
+      let map_ring : map.ring ≡ ring = into.ring ∙ same_ring in
+      let submodule : IsSubmodule ring relations.target (InSpan relations) = span_submodule_of ring positive relations.target relations same_ring refl into.relations_matrix in
       record {
         positive = positive;
         upper_map = into;
         lower_map = into;
         right_map = record {
           matrix = IsMatrix-identity ring above relations.target;
-          source_modulus = sym modulus;
-          target_modulus = sym modulus;
+          source_ring = sym same_ring;
+          target_ring = sym same_ring;
           source_degrees = row_degrees-identity ring relations.target;
           target_degrees = refl;
           sends = λ v h. subst (InSpan relations) (sym (combined-identity relations.target v (submodule.module_like.vectors v h))) h;
         };
         left_matrix = IsMatrix-identity ring above (row_degrees map);
-        left_modulus = refl;
+        left_ring = refl;
         left_source = row_degrees-identity ring (row_degrees map);
         left_target = refl;
         commutes = λ c h.
-            let coefficients : IsVector ring (row_degrees map) c = subst (λ q. IsVector q (row_degrees map) c) map_modulus h in
+            let coefficients : IsVector ring (row_degrees map) c = subst (λ q. IsVector q (row_degrees map) c) map_ring h in
             let value : Vector = combined map c in
-            let vector : IsVector ring relations.target value = IsVector-combined ring positive map map_modulus into.map_matrix (row_degrees map) relations.target refl into.target c coefficients in
+            let vector : IsVector ring relations.target value = IsVector-combined ring positive map map_ring into.map_matrix (row_degrees map) relations.target refl into.target c coefficients in
             let first : combined (identity ring relations.target) value ≡ value = combined-identity relations.target value vector in
             let second : combined map (combined (identity ring (row_degrees map)) c) ≡ value = ap (combined map) (combined-identity (row_degrees map) c coefficients) in
             record {
               degrees = refl;
               difference =
                   subst (λ ts. InSpan relations (record { degree = c.degree; terms = ts }))
-                  (sym ((λ i. add (place_cmp ring.weights) ring.modulus (first i).terms (negative ring.modulus (second i).terms)) ∙ add-negative (place_keys ring.weights) ring.modulus positive.modulus value.terms vector.canonical))
+                  (sym ((λ i. row_sum ring (first i).terms (negative ring.modulus (second i).terms)) ∙ add-negative (place_keys ring.weights) ring.modulus positive.modulus value.terms vector.canonical))
                   (zero-inside ring positive relations.target (InSpan relations) submodule c.degree);
             };
       }

@@ -12,7 +12,7 @@ use Rattle.sf_algebra.specs.Terms.{Term}
 use Rattle.sf_algebra.specs.Vectors.{Place, Vector, place_cmp}
 use Rattle.sf_algebra.proofs.Normal.{EachPlace, IsAboveEach}
 use Rattle.sf_algebra.proofs.SameTotals.{SameTotals}
-use Rattle.sf_groebner.specs.Criterion.{image}
+use Rattle.sf_groebner.specs.Criterion.{lead_multiple}
 
 -- at each place in In the row begins with the coefficient 1 at its lead, which is in the first n columns
 pub record HasLeads (weights : Weights) (n : ℕ) (In : Place → Type 0) (rows : List Vector) (lead : ℕ → Place) : Type 0 where
@@ -23,11 +23,11 @@ pub record HasLeads (weights : Weights) (n : ℕ) (In : Place → Type 0) (rows 
 
 -- a place in In whose image is less than b
 abbrev pub IsUnder : Weights → (Place → Type 0) → (ℕ → Place) → Place → Place → Type 0
-IsUnder weights In lead b k = In k × (place_cmp weights (image lead k) b ≡ Less)
+IsUnder weights In lead b k = In k × (place_cmp weights (lead_multiple lead k) b ≡ Less)
 
 -- a place in In whose image is not greater than b
 abbrev pub IsAtMost : Weights → (Place → Type 0) → (ℕ → Place) → Place → Place → Type 0
-IsAtMost weights In lead b k = In k × (place_cmp weights (image lead k) b ≢ Greater)
+IsAtMost weights In lead b k = In k × (place_cmp weights (lead_multiple lead k) b ≢ Greater)
 
 -- the coefficient 1 at a place, and no other
 abbrev pub at_place : Place → List (Term Place)
@@ -35,7 +35,7 @@ at_place k = record { at = k; coefficient = 1 } ∷ []
 
 -- a coefficient whose image is b, and 0 for the others
 abbrev pub top_part : Weights → (ℕ → Place) → Place → Term Place → ℕ
-top_part weights lead b t = if is_eq (place_cmp weights (image lead t.at) b) then t.coefficient else 0
+top_part weights lead b t = if is_eq (place_cmp weights (lead_multiple lead t.at) b) then t.coefficient else 0
 
 -- a set of combinations that is closed under sums and multiples
 pub record IsModule (p : ℕ) (S : List (Term Place) → Type 0) : Type 0 where
@@ -48,10 +48,10 @@ pub record IsModule (p : ℕ) (S : List (Term Place) → Type 0) : Type 0 where
 pub record IsSettled (ring : Ring) (In : Place → Type 0) (lead : ℕ → Place) (S : List (Term Place) → Type 0) (j k : Place) : Type 0 where
   pub lower : List (Term Place)
   pub rest : List (Term Place)
-  pub under : EachPlace (IsUnder ring.weights In lead (image lead k)) lower
+  pub under : EachPlace (IsUnder ring.weights In lead (lead_multiple lead k)) lower
   pub inside : S rest
   pub same : SameTotals ring.modulus (at_place j) (at_place k ++ (lower ++ rest))
 
 -- all pairs of places with one image are settled
 abbrev pub IsAllSettled : Ring → (Place → Type 0) → (ℕ → Place) → (List (Term Place) → Type 0) → Type 0
-IsAllSettled ring In lead S = (j k : Place) → In j → In k → image lead j ≡ image lead k → IsSettled ring In lead S j k
+IsAllSettled ring In lead S = (j k : Place) → In j → In k → lead_multiple lead j ≡ lead_multiple lead k → IsSettled ring In lead S j k

@@ -5,6 +5,7 @@ use Rattle.sf_algebra.specs.MatrixOperations.{row_at, row_combination, part_term
 use Rattle.sf_algebra.specs.Rings.{Ring, IsRing}
 use Rattle.sf_algebra.specs.Sums.{add}
 use Rattle.sf_algebra.specs.Terms.{Term}
+use Rattle.sf_algebra.specs.VectorOperations.{row_sum}
 use Rattle.sf_algebra.specs.Vectors.{Place, Vector, place_cmp, IsVector}
 use Rattle.sf_algebra.proofs.Degrees.{degrees_of}
 use Rattle.sf_algebra.proofs.HomogeneousVectors.{IsVector-add, IsVector-nil, IsVector-row_combination}
@@ -12,13 +13,14 @@ use Rattle.sf_algebra.proofs.MatrixRows.{IsWithin}
 use Rattle.sf_algebra.proofs.Orders.{place_cmp_linear}
 use Rattle.sf_algebra.proofs.PartTerms.{IsVector-part_terms}
 use Rattle.sf_algebra.proofs.Ranges.{slice_range-first, slice_range-second}
+use Rattle.sf_algebra.proofs.RowSums.{row_sum-comm, row_sum-assoc, row_sum-nil}
 use Rattle.sf_algebra.proofs.Rows.{IsCanonical-row_combination, row_combination-add, row_combination-add_rows, row_combination-nil}
 use Rattle.sf_algebra.proofs.StackedRows.{row_combination-stacked}
 use Rattle.sf_algebra.proofs.Sums.{add_assoc, add_comm, add-nil}
 use Rattle.sf_groebner.specs.MinimalGenerators.{IsInSum, matrix_of, AreKept}
 use Rattle.sf_groebner.specs.MinimalLaws.{AreChosen}
 use Rattle.sf_groebner.proofs.GraphParts.{IsWithin-coefficients}
-use Rattle.sf_groebner.proofs.PairedVectors.{pair_terms, pair_terms-parts, IsVector-pair}
+use Rattle.sf_groebner.proofs.PairedVectors.{paired_terms, paired_terms-parts, IsVector-pair}
 use Rattle.sf_groebner.proofs.SumsAndMultiples.{HasSumsAndMultiples, row_matrix, row_combination-scaled}
 
 module _ (ring : Ring) (target : List ℤ) (B : Vector → Type 0) where
@@ -28,7 +30,7 @@ module _ (ring : Ring) (target : List ℤ) (B : Vector → Type 0) where
     pub coefficients : List (Term Place)
     pub inside : B (record { degree = d; terms = first })
     pub vector : IsVector ring (degrees_of rows) (record { degree = d; terms = coefficients })
-    pub sum : add (place_cmp ring.weights) ring.modulus first (row_combination ring rows coefficients) ≡ ts
+    pub sum : row_sum ring first (row_combination ring rows coefficients) ≡ ts
 
   pub IsSumAt-from : (rows : List Vector) (v : Vector) → IsInSum (matrix_of ring target rows) B v → IsSumAt rows v.degree v.terms
   IsSumAt-from rows v h =
@@ -39,7 +41,7 @@ module _ (ring : Ring) (target : List ℤ) (B : Vector → Type 0) where
         coefficients = c.terms;
         inside = subst (λ d. B (record { degree = d; terms = h.first.terms })) h.first_degree h.in_module;
         vector = subst (λ d. IsVector ring (degrees_of rows) (record { degree = d; terms = c.terms })) degree (h.in_span).1;
-        sum = ap (λ x. add (place_cmp ring.weights) ring.modulus h.first.terms x.terms) (h.in_span).2 ∙ h.sum;
+        sum = ap (λ x. row_sum ring h.first.terms x.terms) (h.in_span).2 ∙ h.sum;
       }
 
   pub IsSumAt-to : (rows : List Vector) (v : Vector) → IsSumAt rows v.degree v.terms → IsInSum (matrix_of ring target rows) B v
@@ -54,14 +56,14 @@ module _ (ring : Ring) (target : List ℤ) (B : Vector → Type 0) where
   }
 
   module _ (positive : IsRing ring) where
-    add-left : (x l y : List (Term Place)) → add (place_cmp ring.weights) ring.modulus x (add (place_cmp ring.weights) ring.modulus l y) ≡ add (place_cmp ring.weights) ring.modulus l (add (place_cmp ring.weights) ring.modulus x y)
+    add-left : (x l y : List (Term Place)) → row_sum ring x (row_sum ring l y) ≡ row_sum ring l (row_sum ring x y)
     add-left x l y =
-        sym (add_assoc (place_cmp ring.weights) (place_cmp_linear ring.weights) ring.modulus positive.modulus x l y)
-        ∙ ap (λ z. add (place_cmp ring.weights) ring.modulus z y) (add_comm (place_cmp ring.weights) (place_cmp_linear ring.weights) ring.modulus positive.modulus x l)
-        ∙ add_assoc (place_cmp ring.weights) (place_cmp_linear ring.weights) ring.modulus positive.modulus l x y
+        sym (row_sum-assoc ring positive.modulus x l y)
+        ∙ ap (λ z. row_sum ring z y) (row_sum-comm ring positive.modulus x l)
+        ∙ row_sum-assoc ring positive.modulus l x y
 
-    add-regroup : (a x l y : List (Term Place)) → add (place_cmp ring.weights) ring.modulus (add (place_cmp ring.weights) ring.modulus a x) (add (place_cmp ring.weights) ring.modulus l y) ≡ add (place_cmp ring.weights) ring.modulus a (add (place_cmp ring.weights) ring.modulus l (add (place_cmp ring.weights) ring.modulus x y))
-    add-regroup a x l y = add_assoc (place_cmp ring.weights) (place_cmp_linear ring.weights) ring.modulus positive.modulus a x (add (place_cmp ring.weights) ring.modulus l y) ∙ ap (add (place_cmp ring.weights) ring.modulus a) (add-left x l y)
+    add-regroup : (a x l y : List (Term Place)) → row_sum ring (row_sum ring a x) (row_sum ring l y) ≡ row_sum ring a (row_sum ring l (row_sum ring x y))
+    add-regroup a x l y = row_sum-assoc ring positive.modulus a x (row_sum ring l y) ∙ ap (row_sum ring a) (add-left x l y)
 
     -- coefficients of the rows and of one row more
     module _ (rows : List Vector) (v : Vector) where
@@ -69,14 +71,14 @@ module _ (ring : Ring) (target : List ℤ) (B : Vector → Type 0) where
       pushed-degrees = map-append (λ (x : Vector). x.degree) rows (v ∷ [])
 
       push : (d : ℤ) (c e : List (Term Place)) → IsVector ring (degrees_of rows) (record { degree = d; terms = c }) → IsVector ring (v.degree ∷ []) (record { degree = d; terms = e })
-          → IsVector ring (degrees_of (rows ++ v ∷ [])) (record { degree = d; terms = pair_terms (length rows) c e })
+          → IsVector ring (degrees_of (rows ++ v ∷ [])) (record { degree = d; terms = paired_terms (length rows) c e })
       push d c e h k =
-          subst (λ n. IsVector ring (degrees_of (rows ++ v ∷ [])) (record { degree = d; terms = pair_terms n c e })) (length-map rows (λ (x : Vector). x.degree))
-          (subst (λ ds. IsVector ring ds (record { degree = d; terms = pair_terms (length (degrees_of rows)) c e })) (sym pushed-degrees)
+          subst (λ n. IsVector ring (degrees_of (rows ++ v ∷ [])) (record { degree = d; terms = paired_terms n c e })) (length-map rows (λ (x : Vector). x.degree))
+          (subst (λ ds. IsVector ring ds (record { degree = d; terms = paired_terms (length (degrees_of rows)) c e })) (sym pushed-degrees)
           (IsVector-pair (degrees_of rows) (v.degree ∷ []) d ring c e h k))
 
       row_combination-push_row : (d : ℤ) (c e : List (Term Place)) → IsVector ring (degrees_of rows) (record { degree = d; terms = c })
-          → row_combination ring (rows ++ v ∷ []) (pair_terms (length rows) c e) ≡ add (place_cmp ring.weights) ring.modulus (row_combination ring rows c) (row_combination ring (v ∷ []) e)
+          → row_combination ring (rows ++ v ∷ []) (paired_terms (length rows) c e) ≡ row_sum ring (row_combination ring rows c) (row_combination ring (v ∷ []) e)
       row_combination-push_row d c e h = row_combination-stacked ring positive.modulus rows (v ∷ []) c e (IsWithin-coefficients (matrix_of ring target rows) (record { degree = d; terms = c }) h)
 
       -- coefficients of the rows and one more, taken apart
@@ -85,7 +87,7 @@ module _ (ring : Ring) (target : List ℤ) (B : Vector → Type 0) where
         pub last : List (Term Place)
         pub front_vector : IsVector ring (degrees_of rows) (record { degree = d; terms = front })
         pub last_vector : IsVector ring (v.degree ∷ []) (record { degree = d; terms = last })
-        pub value : row_combination ring (rows ++ v ∷ []) c ≡ add (place_cmp ring.weights) ring.modulus (row_combination ring rows front) (row_combination ring (v ∷ []) last)
+        pub value : row_combination ring (rows ++ v ∷ []) c ≡ row_sum ring (row_combination ring rows front) (row_combination ring (v ∷ []) last)
 
       pushed : (d : ℤ) (c : List (Term Place)) → IsVector ring (degrees_of (rows ++ v ∷ [])) (record { degree = d; terms = c }) → IsPushed d c
       pushed d c h =
@@ -105,21 +107,21 @@ module _ (ring : Ring) (target : List ℤ) (B : Vector → Type 0) where
             last = part_terms n (n + 1) c;
             front_vector = front;
             last_vector = last;
-            value = ap (row_combination ring (rows ++ v ∷ [])) (sym (pair_terms-parts ring.weights n 1 c h.canonical.descending within))
+            value = ap (row_combination ring (rows ++ v ∷ [])) (sym (paired_terms-parts ring.weights n 1 c h.canonical.descending within))
                 ∙ row_combination-push_row d (part_terms 0 n c) (part_terms n (n + 1) c) front;
           }
 
     -- one row more
     IsSumAt-push : (rows : List Vector) (v : Vector) (d : ℤ) (ts : List (Term Place)) → IsSumAt rows d ts → (e : List (Term Place)) → IsVector ring (v.degree ∷ []) (record { degree = d; terms = e })
-        → IsSumAt (rows ++ v ∷ []) d (add (place_cmp ring.weights) ring.modulus ts (row_combination ring (v ∷ []) e))
+        → IsSumAt (rows ++ v ∷ []) d (row_sum ring ts (row_combination ring (v ∷ []) e))
     IsSumAt-push rows v d ts h e k = record {
       first = h.first;
-      coefficients = pair_terms (length rows) h.coefficients e;
+      coefficients = paired_terms (length rows) h.coefficients e;
       inside = h.inside;
       vector = push rows v d h.coefficients e h.vector k;
-      sum = ap (add (place_cmp ring.weights) ring.modulus h.first) (row_combination-push_row rows v d h.coefficients e h.vector)
-          ∙ sym (add_assoc (place_cmp ring.weights) (place_cmp_linear ring.weights) ring.modulus positive.modulus h.first (row_combination ring rows h.coefficients) (row_combination ring (v ∷ []) e))
-          ∙ ap (λ us. add (place_cmp ring.weights) ring.modulus us (row_combination ring (v ∷ []) e)) h.sum;
+      sum = ap (row_sum ring h.first) (row_combination-push_row rows v d h.coefficients e h.vector)
+          ∙ sym (row_sum-assoc ring positive.modulus h.first (row_combination ring rows h.coefficients) (row_combination ring (v ∷ []) e))
+          ∙ ap (λ us. row_sum ring us (row_combination ring (v ∷ []) e)) h.sum;
     }
 
     -- where the sums of one list are sums of another, they are so with one row more
@@ -127,22 +129,22 @@ module _ (ring : Ring) (target : List ℤ) (B : Vector → Type 0) where
         → (d : ℤ) (ts : List (Term Place)) → IsSumAt (rows ++ v ∷ []) d ts → IsSumAt (others ++ v ∷ []) d ts
     IsSumAt-both rows others v f d ts h =
         let c = pushed rows v d h.coefficients h.vector in
-        let near : IsSumAt rows d (add (place_cmp ring.weights) ring.modulus h.first (row_combination ring rows c.front)) =
+        let near : IsSumAt rows d (row_sum ring h.first (row_combination ring rows c.front)) =
         record { first = h.first; coefficients = c.front; inside = h.inside; vector = c.front_vector; sum = refl } in
         subst (IsSumAt (others ++ v ∷ []) d)
-        (add_assoc (place_cmp ring.weights) (place_cmp_linear ring.weights) ring.modulus positive.modulus h.first (row_combination ring rows c.front) (row_combination ring (v ∷ []) c.last)
-        ∙ ap (add (place_cmp ring.weights) ring.modulus h.first) (sym c.value) ∙ h.sum)
+        (row_sum-assoc ring positive.modulus h.first (row_combination ring rows c.front) (row_combination ring (v ∷ []) c.last)
+        ∙ ap (row_sum ring h.first) (sym c.value) ∙ h.sum)
         (IsSumAt-push others v d _ (f d _ near) c.last c.last_vector)
 
     IsSumAt-more : (rows : List Vector) (v : Vector) (d : ℤ) (ts : List (Term Place)) → IsSumAt rows d ts → IsSumAt (rows ++ v ∷ []) d ts
     IsSumAt-more rows v d ts h = record {
       first = h.first;
-      coefficients = pair_terms (length rows) h.coefficients [];
+      coefficients = paired_terms (length rows) h.coefficients [];
       inside = h.inside;
       vector = push rows v d h.coefficients [] h.vector (IsVector-nil ring (v.degree ∷ []) d);
-      sum = ap (add (place_cmp ring.weights) ring.modulus h.first) (row_combination-push_row rows v d h.coefficients [] h.vector
-          ∙ ap (add (place_cmp ring.weights) ring.modulus (row_combination ring rows h.coefficients)) (row_combination-nil ring positive.modulus (v ∷ []))
-          ∙ add-nil (place_cmp ring.weights) (place_cmp_linear ring.weights) ring.modulus positive.modulus (row_combination ring rows h.coefficients) (IsCanonical-row_combination ring positive.modulus rows h.coefficients))
+      sum = ap (row_sum ring h.first) (row_combination-push_row rows v d h.coefficients [] h.vector
+          ∙ ap (row_sum ring (row_combination ring rows h.coefficients)) (row_combination-nil ring positive.modulus (v ∷ []))
+          ∙ row_sum-nil ring positive.modulus (row_combination ring rows h.coefficients) (IsCanonical-row_combination ring positive.modulus rows h.coefficients))
           ∙ h.sum;
     }
 
@@ -156,25 +158,25 @@ module _ (ring : Ring) (target : List ℤ) (B : Vector → Type 0) where
           let e : Vector = record { degree = v.degree; terms = k.coefficients } in
           let x = row_combination ring (b ∷ []) c.last in
           let y = row_combination ring (e ∷ []) c.last in
-          let row : row_combination ring (v ∷ []) c.last ≡ add (place_cmp ring.weights) ring.modulus x (row_combination ring rows y) =
+          let row : row_combination ring (v ∷ []) c.last ≡ row_sum ring x (row_combination ring rows y) =
           row_combination-add_rows ring positive.modulus (v ∷ []) (b ∷ []) (record { degree = v.degree; terms = row_combination ring rows k.coefficients } ∷ []) (rows_agree k) c.last
-          ∙ ap (add (place_cmp ring.weights) ring.modulus x) (row_combination-scaled (matrix_of ring target rows) positive e last) in
+          ∙ ap (row_sum ring x) (row_combination-scaled (matrix_of ring target rows) positive e last) in
           record {
-            first = add (place_cmp ring.weights) ring.modulus h.first x;
-            coefficients = add (place_cmp ring.weights) ring.modulus c.front y;
+            first = row_sum ring h.first x;
+            coefficients = row_sum ring c.front y;
             inside = closed.sums d h.first x h.inside (closed.multiples b last k.inside c.last_vector);
             vector = IsVector-add ring (degrees_of rows) positive.modulus d c.front y c.front_vector (IsVector-row_combination (row_matrix ring (degrees_of rows) e) positive.modulus (k.vector, tt) last c.last_vector);
-            sum = ap (add (place_cmp ring.weights) ring.modulus (add (place_cmp ring.weights) ring.modulus h.first x)) (row_combination-add ring positive.modulus rows c.front y)
+            sum = ap (row_sum ring (row_sum ring h.first x)) (row_combination-add ring positive.modulus rows c.front y)
                 ∙ add-regroup h.first x (row_combination ring rows c.front) (row_combination ring rows y)
-                ∙ ap (λ us. add (place_cmp ring.weights) ring.modulus h.first (add (place_cmp ring.weights) ring.modulus (row_combination ring rows c.front) us)) (sym row)
-                ∙ ap (add (place_cmp ring.weights) ring.modulus h.first) (sym c.value)
+                ∙ ap (λ us. row_sum ring h.first (row_sum ring (row_combination ring rows c.front) us)) (sym row)
+                ∙ ap (row_sum ring h.first) (sym c.value)
                 ∙ h.sum;
           }
         where
           rows_agree : (k : IsSumAt rows v.degree v.terms) (i : ℕ)
-              → row_at (v ∷ []) i ≡ add (place_cmp ring.weights) ring.modulus (row_at (record { degree = v.degree; terms = k.first } ∷ []) i) (row_at (record { degree = v.degree; terms = row_combination ring rows k.coefficients } ∷ []) i)
+              → row_at (v ∷ []) i ≡ row_sum ring (row_at (record { degree = v.degree; terms = k.first } ∷ []) i) (row_at (record { degree = v.degree; terms = row_combination ring rows k.coefficients } ∷ []) i)
           rows_agree k zero = sym k.sum
-          rows_agree k (suc i) = sym (add-nil (place_cmp ring.weights) (place_cmp_linear ring.weights) ring.modulus positive.modulus [] (record { descending = tt; residues = tt }))
+          rows_agree k (suc i) = sym (row_sum-nil ring positive.modulus [] (record { descending = tt; residues = tt }))
 
       -- two lists of rows have the same sums with B
       pub record HasSameSums (rows others : List Vector) : Type 0 where

@@ -7,18 +7,20 @@ use Rattle.sf_algebra.specs.Residues.{negative_mod}
 use Rattle.sf_algebra.specs.Rings.{Ring, IsRing}
 use Rattle.sf_algebra.specs.Sums.{add}
 use Rattle.sf_algebra.specs.Terms.{Term}
+use Rattle.sf_algebra.specs.VectorOperations.{row_sum, row_multiple}
 use Rattle.sf_algebra.specs.Vectors.{Place, Vector, place_cmp}
 use Rattle.sf_algebra.proofs.Keys.{place_keys}
 use Rattle.sf_algebra.proofs.Negatives.{negative_one_term}
 use Rattle.sf_algebra.proofs.Normal.{EachPlace}
 use Rattle.sf_algebra.proofs.Orders.{place_cmp_linear}
+use Rattle.sf_algebra.proofs.RowSums.{row_sum-nil}
 use Rattle.sf_algebra.proofs.Rows.{IsCanonical-row_combination, row_combination-append, row_combination-multiple, row_combination-nil}
 use Rattle.sf_algebra.proofs.SameTotals.{SameTotals, SameTotals-append, SameTotals-equal, SameTotals-negative, SameTotals-normal, SameTotals-refl, SameTotals-swap, SameTotals-sym, SameTotals-trans, combination-SameTotals}
 use Rattle.sf_algebra.proofs.Sums.{add-nil, normal-nil}
-use Rattle.sf_groebner.specs.Criterion.{lcm_place, pair_place, pair_terms}
+use Rattle.sf_groebner.specs.Criterion.{lcm_place, pair_place, s_coefficients}
 use Rattle.sf_groebner.proofs.Images.{IsModule, IsSettled, IsUnder, at_place}
 use Rattle.sf_groebner.proofs.Multiplied.{SameTotals-constant}
-use Rattle.sf_groebner.proofs.Pairs.{image-pair_place, lcm_place-comm}
+use Rattle.sf_groebner.proofs.Pairs.{lead_multiple-pair_place, lcm_place-comm}
 
 module _ (ring : Ring) (positive : IsRing ring) where
   -- the coefficient -1 at a place, and no other
@@ -49,7 +51,7 @@ module _ (ring : Ring) (positive : IsRing ring) where
     pub row_combination-SameTotals : {c d : List (Term Place)} → SameTotals ring.modulus c d → row_combination ring rows c ≡ row_combination ring rows d
     row_combination-SameTotals same = combination-SameTotals (place_keys ring.weights) ring.modulus positive.modulus (λ k. k.monomial) (λ k. row_at rows k.position) same
 
-    pub row_combination-products : (s : Term Monomial) (c : List (Term Place)) → row_combination ring rows (map (term_product place_product ring.modulus s) c) ≡ multiple (place_cmp ring.weights) place_product ring.modulus s (row_combination ring rows c)
+    pub row_combination-products : (s : Term Monomial) (c : List (Term Place)) → row_combination ring rows (map (term_product place_product ring.modulus s) c) ≡ row_multiple ring s (row_combination ring rows c)
     unfolding multiple
     row_combination-products s c =
         row_combination-SameTotals (SameTotals-sym ring.modulus (SameTotals-normal (place_cmp ring.weights) (place_cmp_linear ring.weights) ring.modulus (map (term_product place_product ring.modulus s) c)))
@@ -59,8 +61,8 @@ module _ (ring : Ring) (positive : IsRing ring) where
     pub row_combination-append_zero : (c d : List (Term Place)) → row_combination ring rows d ≡ [] → row_combination ring rows (c ++ d) ≡ row_combination ring rows c
     row_combination-append_zero c d none =
         row_combination-append ring positive.modulus rows c d
-        ∙ ap (add (place_cmp ring.weights) ring.modulus (row_combination ring rows c)) none
-        ∙ add-nil (place_cmp ring.weights) (place_cmp_linear ring.weights) ring.modulus positive.modulus (row_combination ring rows c) (IsCanonical-row_combination ring positive.modulus rows c)
+        ∙ ap (row_sum ring (row_combination ring rows c)) none
+        ∙ row_sum-nil ring positive.modulus (row_combination ring rows c) (IsCanonical-row_combination ring positive.modulus rows c)
 
     pub row_combination-append_zero_first : (c d : List (Term Place)) → row_combination ring rows c ≡ [] → row_combination ring rows (c ++ d) ≡ row_combination ring rows d
     row_combination-append_zero_first c d none = row_combination-SameTotals (SameTotals-swap ring.modulus c d) ∙ row_combination-append_zero d c none
@@ -70,7 +72,7 @@ module _ (ring : Ring) (positive : IsRing ring) where
     row_combination-difference c d same =
         let minus : List (Term Place) = map (term_product place_product ring.modulus (negative_one_term ring.modulus)) d in
         row_combination-append ring positive.modulus rows c minus
-        ∙ ap (λ us. add (place_cmp ring.weights) ring.modulus us (row_combination ring rows minus)) same
+        ∙ ap (λ us. row_sum ring us (row_combination ring rows minus)) same
         ∙ sym (row_combination-append ring positive.modulus rows d minus)
         ∙ row_combination-SameTotals (SameTotals-negative (place_keys ring.weights) ring.modulus positive.modulus d)
         ∙ row_combination-nil ring positive.modulus rows
@@ -79,7 +81,7 @@ module _ (ring : Ring) (positive : IsRing ring) where
     abbrev pub IsZero : List (Term Place) → Type 0
     IsZero c = row_combination ring rows c ≡ []
 
-    multiple-zero_list : (s : Term Monomial) → multiple (place_cmp ring.weights) place_product ring.modulus s [] ≡ []
+    multiple-zero_list : (s : Term Monomial) → row_multiple ring s [] ≡ []
     unfolding multiple
     multiple-zero_list s = normal-nil (place_cmp ring.weights) ring.modulus
 
@@ -87,28 +89,28 @@ module _ (ring : Ring) (positive : IsRing ring) where
     IsZero-module = record {
       has_none = row_combination-nil ring positive.modulus rows;
       has_sums = λ us vs h k. row_combination-append_zero us vs k ∙ h;
-      has_products = λ s us h. row_combination-products s us ∙ ap (multiple (place_cmp ring.weights) place_product ring.modulus s) h ∙ multiple-zero_list s;
+      has_products = λ s us h. row_combination-products s us ∙ ap (row_multiple ring s) h ∙ multiple-zero_list s;
       has_same = λ us vs same h. sym (row_combination-SameTotals same) ∙ h;
     }
 
     module _ (In : Place → Type 0) (lead : ℕ → Place) (i j : ℕ) (positions : (lead i).position ≡ (lead j).position) where
       -- a syzygy z of a pair settles it for a set that has z
       pub settled-syzygy : (S : List (Term Place) → Type 0) (steps z : List (Term Place)) → EachPlace (IsUnder ring.weights In lead (lcm_place lead i j)) steps → S z
-          → SameTotals ring.modulus (z ++ steps) (pair_terms ring.modulus lead i j) → IsSettled ring In lead S (pair_place lead i j) (pair_place lead j i)
+          → SameTotals ring.modulus (z ++ steps) (s_coefficients ring.modulus lead i j) → IsSettled ring In lead S (pair_place lead i j) (pair_place lead j i)
       settled-syzygy S steps z below inside same = record {
         lower = steps;
         rest = z;
-        under = subst (λ b. EachPlace (IsUnder ring.weights In lead b) steps) (lcm_place-comm lead i j positions ∙ sym (image-pair_place lead j i)) below;
+        under = subst (λ b. EachPlace (IsUnder ring.weights In lead b) steps) (lcm_place-comm lead i j positions ∙ sym (lead_multiple-pair_place lead j i)) below;
         inside = inside;
         same = SameTotals-from_difference (pair_place lead i j) (pair_place lead j i) (steps ++ z) (SameTotals-sym ring.modulus (SameTotals-trans ring.modulus (SameTotals-swap ring.modulus steps z) same));
       }
 
       -- a pair that reduces to zero is settled
       pub settled-reduces : (steps : List (Term Place)) → EachPlace (IsUnder ring.weights In lead (lcm_place lead i j)) steps
-          → row_combination ring rows steps ≡ row_combination ring rows (pair_terms ring.modulus lead i j) → IsSettled ring In lead IsZero (pair_place lead i j) (pair_place lead j i)
+          → row_combination ring rows steps ≡ row_combination ring rows (s_coefficients ring.modulus lead i j) → IsSettled ring In lead IsZero (pair_place lead i j) (pair_place lead j i)
       settled-reduces steps below value =
           let minus : List (Term Place) = map (term_product place_product ring.modulus (negative_one_term ring.modulus)) steps in
-          let terms = pair_terms ring.modulus lead i j in
+          let terms = s_coefficients ring.modulus lead i j in
           settled-syzygy IsZero steps (terms ++ minus) below (row_combination-difference terms steps (sym value))
           (SameTotals-trans ring.modulus (SameTotals-equal ring.modulus _ _ (append_assoc terms minus steps))
           (SameTotals-trans ring.modulus
@@ -116,7 +118,7 @@ module _ (ring : Ring) (positive : IsRing ring) where
           (SameTotals-equal ring.modulus _ _ (append-nil terms))))
 
       -- a pair that is settled reduces to zero
-      pub reduces-settled : (h : IsSettled ring In lead IsZero (pair_place lead i j) (pair_place lead j i)) → row_combination ring rows h.lower ≡ row_combination ring rows (pair_terms ring.modulus lead i j)
+      pub reduces-settled : (h : IsSettled ring In lead IsZero (pair_place lead i j) (pair_place lead j i)) → row_combination ring rows h.lower ≡ row_combination ring rows (s_coefficients ring.modulus lead i j)
       reduces-settled h =
           sym (row_combination-append_zero h.lower h.rest h.inside)
           ∙ sym (row_combination-SameTotals (SameTotals-difference (pair_place lead i j) (pair_place lead j i) (h.lower ++ h.rest) h.same))

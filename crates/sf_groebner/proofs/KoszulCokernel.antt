@@ -81,10 +81,10 @@ relations = record {
 
 pub koszul-cokernel : HasKoszulCokernel
 koszul-cokernel = record {
-  generators_modulus = refl;
+  generators_ring = refl;
   generators_target = refl;
   generators_minimal = generators;
-  relations_modulus = refl;
+  relations_ring = refl;
   relations_target = refl;
   relations_minimal = relations;
 }

@@ -39,10 +39,10 @@ no_relations B = record { basis = []; reduced = reduced-no_rows (plain 101) (pos
 
 pub koszul-homology : HasNoKoszulHomology
 koszul-homology = record {
-  generators_modulus = refl;
+  generators_ring = refl;
   generators_target = refl;
   generators_minimal = record { basis = koszul_row ∷ []; reduced = cycles; kept = inl (koszul_left_out, refl) };
-  relations_modulus = refl;
+  relations_ring = refl;
   relations_target = refl;
   relations_minimal = no_relations (InSpan koszul);
 }
@@ -61,10 +61,10 @@ sum_from_free v h = record {
 
 pub koszul-kernel : HasKoszulKernel
 koszul-kernel = record {
-  generators_modulus = refl;
+  generators_ring = refl;
   generators_target = refl;
   generators_minimal = record { basis = koszul_row ∷ []; reduced = cycles; kept = inr (λ h. koszul-needed (sum_from_free koszul_row h), ([], refl, refl)) };
-  relations_modulus = refl;
+  relations_ring = refl;
   relations_target = refl;
   relations_minimal = record { basis = []; reduced = reduced-free_relations koszul (omega arith) (pos 1 ∷ pos 1 ∷ []) [] koszul-end; kept = refl };
 }

@@ -5,8 +5,10 @@ use Rattle.sf_algebra.specs.MatrixOperations.{row_combination}
 use Rattle.sf_algebra.specs.Primes.{IsPrime}
 use Rattle.sf_algebra.specs.Rings.{IsRing, IsOverField, Ring}
 use Rattle.sf_algebra.specs.Sums.{add}
+use Rattle.sf_algebra.specs.VectorOperations.{row_sum}
 use Rattle.sf_algebra.specs.Vectors.{Vector, place_cmp}
 use Rattle.sf_algebra.proofs.Orders.{place_cmp_linear}
+use Rattle.sf_algebra.proofs.RowSums.{row_sum-nil}
 use Rattle.sf_algebra.proofs.Rows.{IsCanonical-row_combination, row_combination-add}
 use Rattle.sf_algebra.proofs.Sums.{add-nil}
 use Rattle.sf_groebner.specs.Lifts.{IsLift}
@@ -26,8 +28,8 @@ lift_exists m prime matrix v h =
     let e = divide ring prime (row_degrees m) syzygies (basis-monic ring (row_degrees m) (IsSyzygy m) (λ w k. k.coefficients) syzygies b.1) given h.1 in
     let zero : row_combination ring m.rows (row_combination ring syzygies e.quotients) ≡ [] = ((syzygy_submodule m positive).combinations syzygies b.1.inside given.degree e.quotients e.homogeneous).zero in
     let terms : row_combination ring m.rows e.rest ≡ row_combination ring m.rows given.terms =
-    sym (add-nil (place_cmp ring.weights) (place_cmp_linear ring.weights) ring.modulus positive.modulus (row_combination ring m.rows e.rest) (IsCanonical-row_combination ring positive.modulus m.rows e.rest))
-    ∙ ap (add (place_cmp ring.weights) ring.modulus (row_combination ring m.rows e.rest)) (sym zero)
+    sym (row_sum-nil ring positive.modulus (row_combination ring m.rows e.rest) (IsCanonical-row_combination ring positive.modulus m.rows e.rest))
+    ∙ ap (row_sum ring (row_combination ring m.rows e.rest)) (sym zero)
     ∙ sym (row_combination-add ring positive.modulus m.rows e.rest (row_combination ring syzygies e.quotients))
     ∙ ap (row_combination ring m.rows) e.sum in (
       record { degree = given.degree; terms = e.rest },

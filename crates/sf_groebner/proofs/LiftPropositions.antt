@@ -6,7 +6,7 @@ use Rattle.sf_algebra.specs.Matrices.{Matrix, row_degrees}
 use Rattle.sf_algebra.specs.Rings.{IsRing}
 use Rattle.sf_algebra.specs.Vectors.{Vector}
 use Rattle.sf_groebner.specs.Lifts.{IsLift}
-use Rattle.sf_groebner.specs.ReducedBases.{IsReducedBy, IsReducedBasis}
+use Rattle.sf_groebner.specs.ReducedBases.{IsReducedBy, IsReducedBasis, IsSyzygyBasis}
 use Rattle.sf_groebner.specs.Spans.{combined, IsSyzygy}
 use Rattle.sf_groebner.proofs.Propositions.{IsVector-prop, IsReducedBy-prop, syzygy_basis-prop}
 use Rattle.sf_groebner.proofs.Spans.{syzygy_module}
@@ -18,7 +18,7 @@ same_vectors-prop v w = hlevel props
 pub IsLift-prop : (m : Matrix) → IsRing m.ring → (v c : Vector) → IsProp (IsLift m v c)
 IsLift-prop m positive v c h k =
     let bases : h.syzygies ≡ k.syzygies = unique_reduced m.ring positive (row_degrees m) (IsSyzygy m) (syzygy_module m positive) h.syzygies k.syzygies h.basis k.basis in
-    let basis = is_prop→PathP (λ i. IsReducedBasis m.ring.weights (IsSyzygy m) (bases i)) (λ i. syzygy_basis-prop m (bases i)) h.basis k.basis in
+    let basis = is_prop→PathP (λ i. IsSyzygyBasis m (bases i)) (λ i. syzygy_basis-prop m (bases i)) h.basis k.basis in
     let reduced = is_prop→PathP (λ i. IsReducedBy (bases i) c.terms) (λ i. IsReducedBy-prop (bases i) c.terms) h.reduced k.reduced in
     λ i. record {
       syzygies = bases i;

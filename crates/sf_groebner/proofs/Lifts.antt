@@ -5,6 +5,7 @@ use Rattle.sf_algebra.specs.MatrixOperations.{part_terms, row_combination, stack
 use Rattle.sf_algebra.specs.Multiples.{negative}
 use Rattle.sf_algebra.specs.Rings.{IsRing}
 use Rattle.sf_algebra.specs.Sums.{add}
+use Rattle.sf_algebra.specs.VectorOperations.{row_sum, vector_difference}
 use Rattle.sf_algebra.specs.Vectors.{Vector, place_cmp}
 use Rattle.sf_algebra.proofs.Keys.{place_keys}
 use Rattle.sf_algebra.proofs.Lists.{AllByRecursion-weaken}
@@ -12,12 +13,11 @@ use Rattle.sf_algebra.proofs.Negatives.{add-negative}
 use Rattle.sf_algebra.proofs.Rows.{IsCanonical-row_combination}
 use Rattle.sf_groebner.specs.Cuts.{has_first_part, first_parts, IsFirstBlock}
 use Rattle.sf_groebner.specs.Lifts.{IsLift}
-use Rattle.sf_groebner.specs.ReducedBases.{IsReducedBy, IsReducedBasis}
+use Rattle.sf_groebner.specs.ReducedBases.{IsReducedBy, IsReducedBasis, IsSyzygyBasis}
 use Rattle.sf_groebner.specs.Spans.{IsCoefficients, combined, IsSyzygy}
 use Rattle.sf_groebner.proofs.Apart.{IsReducedBy-item}
 use Rattle.sf_groebner.proofs.FirstParts.{IsFirstPart, first_part, first_part_module, reduced-first_parts}
 use Rattle.sf_groebner.proofs.Items.{AllByRecursion-from_items}
-use Rattle.sf_groebner.proofs.Modules.{difference}
 use Rattle.sf_groebner.proofs.ReducedParts.{elements, reduced_by-parts}
 use Rattle.sf_groebner.proofs.Remainders.{same_reduced}
 use Rattle.sf_groebner.proofs.Spans.{IsVector-difference, combined-difference, syzygy_module}
@@ -25,11 +25,11 @@ use Rattle.sf_groebner.proofs.UniqueBases.{unique_reduced}
 
 module _ (m : Matrix) (positive : IsRing m.ring) where
   -- coefficients of one vector differ by a syzygy
-  pub IsSyzygy-difference : (c d : Vector) → IsCoefficients m c → IsCoefficients m d → combined m c ≡ combined m d → IsSyzygy m (difference m.ring c d)
+  pub IsSyzygy-difference : (c d : Vector) → IsCoefficients m c → IsCoefficients m d → combined m c ≡ combined m d → IsSyzygy m (vector_difference m.ring c d)
   IsSyzygy-difference c d h k same = record {
     coefficients = IsVector-difference m.ring positive (row_degrees m) c d h k (ap (λ v. v.degree) same);
     zero = ap (λ v. v.terms) (combined-difference m positive c d k.canonical)
-        ∙ ap (λ v. add (place_cmp m.ring.weights) m.ring.modulus v.terms (negative m.ring.modulus (row_combination m.ring m.rows d.terms))) same
+        ∙ ap (λ v. row_sum m.ring v.terms (negative m.ring.modulus (row_combination m.ring m.rows d.terms))) same
         ∙ add-negative (place_keys m.ring.weights) m.ring.modulus positive.modulus (row_combination m.ring m.rows d.terms) (IsCanonical-row_combination m.ring positive.modulus m.rows d.terms);
   }
 
@@ -39,12 +39,12 @@ module _ (m : Matrix) (positive : IsRing m.ring) where
       let bases : k.syzygies ≡ h.syzygies = unique_reduced m.ring positive (row_degrees m) (IsSyzygy m) (syzygy_module m positive) k.syzygies h.syzygies k.basis h.basis in
       let terms : c.terms ≡ d.terms =
       same_reduced m.ring positive h.syzygies c d h.coefficients.canonical k.coefficients.canonical
-      (h.basis.complete (difference m.ring c d) (IsSyzygy-difference c d h.coefficients k.coefficients value))
+      (h.basis.complete (vector_difference m.ring c d) (IsSyzygy-difference c d h.coefficients k.coefficients value))
       h.reduced (subst (λ basis. IsReducedBy basis d.terms) bases k.reduced) in
       λ i. record { degree = (value i).degree; terms = terms i }
 
 -- what is reduced by all syzygies has first coefficients that are reduced by the first blocks of syzygies
-pub reduced-first_block : (m : Matrix) (n : ℕ) (syzygies : List Vector) (c : Vector) → IsReducedBasis m.ring.weights (IsSyzygy m) syzygies → IsReducedBy syzygies c.terms
+pub reduced-first_block : (m : Matrix) (n : ℕ) (syzygies : List Vector) (c : Vector) → IsSyzygyBasis m syzygies → IsReducedBy syzygies c.terms
     → IsReducedBy (first_parts n syzygies) (part_terms 0 n c.terms)
 reduced-first_block m n syzygies c h free =
     let cut = first_part m.ring (row_degrees m) (IsSyzygy m) (λ w k. k.coefficients) n in

@@ -6,7 +6,7 @@ use Rattle.sf_algebra.specs.Primes.{IsPrime}
 use Rattle.sf_algebra.specs.Rings.{Ring, IsRing, IsOverField}
 use Rattle.sf_algebra.specs.Vectors.{Vector, IsVector}
 use Rattle.sf_groebner.specs.ExistenceLaws.{IsAnswer}
-use Rattle.sf_groebner.specs.ReducedBases.{IsMonic, IsReducedBasis}
+use Rattle.sf_groebner.specs.ReducedBases.{IsMonic, IsReducedBasis, IsSpanBasis, IsSyzygyBasis, IsGraphBasis}
 use Rattle.sf_groebner.specs.Small.{HasSmallSize, IsLarge, IsSmall, IsWithinLimit}
 use Rattle.sf_groebner.specs.Spans.{InSpan, IsGraphVector, IsSyzygy, graph_degrees}
 use Rattle.sf_algebra.proofs.Weights.{field_ring}
@@ -27,14 +27,14 @@ module _ (m : Matrix) (prime : IsOverField m.ring) (matrix : IsMatrix m) where
   positive : IsRing m.ring
   positive = field_ring prime
 
-  pub graph_basis : (basis : List Vector) × IsReducedBasis m.ring.weights (IsGraphVector m) basis
+  pub graph_basis : (basis : List Vector) × IsGraphBasis m basis
   graph_basis =
       reduced_exists m.ring prime (graph_degrees m) (IsGraphVector m) (graph_submodule m (field_ring prime) prime.prime.above_one matrix) (graph_rows m (field_ring prime) prime.prime.above_one matrix) (graph_generators m (field_ring prime) prime.prime.above_one matrix)
 
-  pub span_basis : (basis : List Vector) × IsReducedBasis m.ring.weights (InSpan m) basis
+  pub span_basis : (basis : List Vector) × IsSpanBasis m basis
   span_basis = (_, reduced-span m positive matrix graph_basis.0 graph_basis.1)
 
-  pub syzygy_basis : (basis : List Vector) × IsReducedBasis m.ring.weights (IsSyzygy m) basis
+  pub syzygy_basis : (basis : List Vector) × IsSyzygyBasis m basis
   syzygy_basis = (_, reduced-syzygies m positive graph_basis.0 graph_basis.1)
 
   -- m is small for a limit, or large
@@ -44,7 +44,7 @@ module _ (m : Matrix) (prime : IsOverField m.ring) (matrix : IsMatrix m) where
       let reduced = graph_basis.1 in
       by_size (decide_small_size m) basis reduced (decide_within_limit m.ring.weights limit basis)
     where
-      by_size : IsDecided (HasSmallSize m) → (basis : List Vector) → IsReducedBasis m.ring.weights (IsGraphVector m) basis → IsDecided (IsWithinLimit m.ring.weights limit basis)
+      by_size : IsDecided (HasSmallSize m) → (basis : List Vector) → IsGraphBasis m basis → IsDecided (IsWithinLimit m.ring.weights limit basis)
           → ((basis : List Vector) × IsSmall limit m basis) ⊎ IsLarge limit m
       by_size (inr large) basis reduced within = inr (λ other small. large small.size)
       by_size (inl size) basis reduced (inl within) = inl (basis, record { size = size; reduced = reduced; within = within })

@@ -3,13 +3,10 @@ use Rattle.std.proofs.Common.{◌≡◌, ℕ, List, ℤ}
 use Rattle.sf_algebra.specs.Multiples.{negative}
 use Rattle.sf_algebra.specs.Rings.{Ring}
 use Rattle.sf_algebra.specs.Sums.{add}
+use Rattle.sf_algebra.specs.VectorOperations.{vector_difference}
 use Rattle.sf_algebra.specs.Vectors.{Vector, place_cmp, IsVector}
-
--- u - v, of the degree of u
-abbrev pub difference : Ring → Vector → Vector → Vector
-difference ring u v = record { degree = u.degree; terms = add (place_cmp ring.weights) ring.modulus u.terms (negative ring.modulus v.terms) }
 
 -- the vectors of N are homogeneous vectors over one free module, and differences of two of one degree are in N
 pub record IsModuleLike (ring : Ring) (degrees : List ℤ) (N : Vector → Type 0) : Type 0 where
   pub vectors : (v : Vector) → N v → IsVector ring degrees v
-  pub differences : (u v : Vector) → N u → N v → u.degree ≡ v.degree → N (difference ring u v)
+  pub differences : (u v : Vector) → N u → N v → u.degree ≡ v.degree → N (vector_difference ring u v)

@@ -7,8 +7,8 @@ use Rattle.sf_algebra.specs.Monomials.{Monomial}
 use Rattle.sf_algebra.specs.Multiples.{place_product}
 use Rattle.sf_algebra.specs.Rings.{Ring}
 use Rattle.sf_algebra.specs.Terms.{Term, IsCanonical}
-use Rattle.sf_algebra.specs.Vectors.{Place, Vector, place_cmp}
-use Rattle.sf_groebner.specs.Criterion.{IsMonicRow, image, lead_at, lead_place}
+use Rattle.sf_algebra.specs.Vectors.{Place, Vector, place_cmp, IsCanonicalRow}
+use Rattle.sf_groebner.specs.Criterion.{IsMonicRow, lead_multiple, lead_at, lead_place}
 use Rattle.sf_groebner.specs.ReducedBases.{HasDividedLead, IsMonic, is_divided, lead_divides}
 use Rattle.sf_groebner.proofs.Images.{HasLeads}
 use Rattle.sf_groebner.proofs.PlaceDivisors.{Decides-place_divides, PlaceDivides-place_product}
@@ -30,7 +30,7 @@ lead_bound-row (v ∷ vs) zero h = omega arith
 lead_bound-row (v ∷ vs) (suc i) h = let rest = lead_bound-row vs i (omega arith) in omega arith
 
 -- a monic row among others
-pub IsMonicRow-row_at : (ring : Ring) (rows : List Vector) → AllByRecursion (IsMonicRow ring) rows → (i : ℕ) → i < length rows → IsCanonical (place_cmp ring.weights) ring.modulus (row_at rows i) × IsMonic (row_at rows i)
+pub IsMonicRow-row_at : (ring : Ring) (rows : List Vector) → AllByRecursion (IsMonicRow ring) rows → (i : ℕ) → i < length rows → IsCanonicalRow ring (row_at rows i) × IsMonic (row_at rows i)
 IsMonicRow-row_at ring [] h i within = absurd (omega arith)
 IsMonicRow-row_at ring (v ∷ vs) h zero within = (h.0.canonical, h.0.monic)
 IsMonicRow-row_at ring (v ∷ vs) h (suc i) within = IsMonicRow-row_at ring vs h.1 i (omega arith)
@@ -40,7 +40,7 @@ pub IsMonic-shape : (ts : List (Term Place)) → IsMonic ts → ts ≡ record { 
 IsMonic-shape [] h = absurd h
 IsMonic-shape (t ∷ ts) h = λ i. record { at = t.at; coefficient = h i } ∷ ts
 
-pub tail_of-low : (ring : Ring) (ts : List (Term Place)) → IsCanonical (place_cmp ring.weights) ring.modulus ts → AllByRecursion (λ (t : Term Place). place_cmp ring.weights t.at (lead_place ts) ≡ Less) (tail_of ts)
+pub tail_of-low : (ring : Ring) (ts : List (Term Place)) → IsCanonicalRow ring ts → AllByRecursion (λ (t : Term Place). place_cmp ring.weights t.at (lead_place ts) ≡ Less) (tail_of ts)
 tail_of-low ring [] h = tt
 tail_of-low ring (t ∷ ts) h = h.descending.0
 
@@ -68,8 +68,8 @@ lead_divides-product [] a h = absurd h
 lead_divides-product (t ∷ ts) a h = (Decides-place_divides t.at (place_product a t.at)).1 (PlaceDivides-place_product a t.at)
 
 -- what begins at an image has a lead that a row's divides
-pub HasDividedLead-Begins : (ring : Ring) (rows : List Vector) → AllByRecursion (IsMonicRow ring) rows → (k : Place) → k.position < length rows → (v : List (Term Place)) → Begins (image (lead_at rows) k) v → HasDividedLead rows v
+pub HasDividedLead-Begins : (ring : Ring) (rows : List Vector) → AllByRecursion (IsMonicRow ring) rows → (k : Place) → k.position < length rows → (v : List (Term Place)) → Begins (lead_multiple (lead_at rows) k) v → HasDividedLead rows v
 HasDividedLead-Begins ring rows monic k within v begins =
     subst (HasDividedLead rows) (sym begins.shape)
-    (is_divided-row rows k.position (image (lead_at rows) k) within
+    (is_divided-row rows k.position (lead_multiple (lead_at rows) k) within
     (lead_divides-product (row_at rows k.position) k.monomial (IsMonicRow-row_at ring rows monic k.position within).1))

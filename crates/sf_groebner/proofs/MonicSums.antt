@@ -5,8 +5,10 @@ use Rattle.sf_algebra.specs.MatrixOperations.{row_combination}
 use Rattle.sf_algebra.specs.Rings.{Ring, IsRing}
 use Rattle.sf_algebra.specs.Sums.{add}
 use Rattle.sf_algebra.specs.Terms.{Term, IsCanonical}
-use Rattle.sf_algebra.specs.Vectors.{Place, Vector, place_cmp}
+use Rattle.sf_algebra.specs.VectorOperations.{row_sum}
+use Rattle.sf_algebra.specs.Vectors.{Place, Vector, place_cmp, IsCanonicalRow}
 use Rattle.sf_algebra.proofs.Orders.{place_cmp_linear}
+use Rattle.sf_algebra.proofs.RowSums.{row_sum-nil_first}
 use Rattle.sf_algebra.proofs.Rows.{IsCanonical-row_combination}
 use Rattle.sf_algebra.proofs.Sums.{add-nil_first, normal-canonical}
 use Rattle.sf_groebner.specs.Criterion.{HaveLeadsAtOnePosition, IsForRows, IsMonicRow, ReducesToZero}
@@ -26,9 +28,9 @@ module _ (ring : Ring) (positive : IsRing ring) where
 
     sum-zero_first : (v : Vector) (h : IsInSum (matrix_of ring target rows) IsZero v) → h.second.terms ≡ v.terms
     sum-zero_first v h =
-        sym (add-nil_first (place_cmp ring.weights) (place_cmp_linear ring.weights) ring.modulus positive.modulus h.second.terms
-        (subst (λ (w : Vector). IsCanonical (place_cmp ring.weights) ring.modulus w.terms) h.in_span.2 (IsCanonical-row_combination ring positive.modulus rows h.in_span.0.terms)))
-        ∙ ap (λ us. add (place_cmp ring.weights) ring.modulus us h.second.terms) (sym h.in_module)
+        sym (row_sum-nil_first ring positive.modulus h.second.terms
+        (subst (λ (w : Vector). IsCanonicalRow ring w.terms) h.in_span.2 (IsCanonical-row_combination ring positive.modulus rows h.in_span.0.terms)))
+        ∙ ap (λ us. row_sum ring us h.second.terms) (sym h.in_module)
         ∙ h.sum
 
     pub not_in_sum : (v : Vector) → (HasDividedLead rows v.terms → ⊥) → IsInSum (matrix_of ring target rows) IsZero v → ⊥

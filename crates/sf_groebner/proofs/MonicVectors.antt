@@ -12,7 +12,7 @@ use Rattle.sf_algebra.specs.Multiples.{place_product, term_product}
 use Rattle.sf_algebra.specs.Primes.{IsPrime}
 use Rattle.sf_algebra.specs.Rings.{Ring, IsOverField}
 use Rattle.sf_algebra.specs.Terms.{Term, IsNonzeroResidue}
-use Rattle.sf_algebra.specs.Vectors.{Place, Vector, generator_degree, term_degree, IsTermOfDegree, IsHomogeneous, IsVector}
+use Rattle.sf_algebra.specs.Vectors.{Place, Vector, generator_degree, place_degree, IsTermOfDegree, IsHomogeneous, IsVector}
 use Rattle.sf_algebra.proofs.Degrees.{degrees_of, HasHomogeneousRows}
 use Rattle.sf_algebra.proofs.Divisors.{product-quotient}
 use Rattle.sf_algebra.proofs.Keys.{place_keys}
@@ -21,7 +21,7 @@ use Rattle.sf_algebra.proofs.PrimeMultiples.{multiple-map}
 use Rattle.sf_algebra.proofs.Products.{monomial_degree-product}
 use Rattle.sf_algebra.proofs.Residues.{product_mod-one}
 use Rattle.sf_algebra.proofs.Rows.{row_combination-one}
-use Rattle.sf_groebner.specs.Criterion.{lead_place, lead_at, image}
+use Rattle.sf_groebner.specs.Criterion.{lead_place, lead_at, lead_multiple}
 use Rattle.sf_groebner.specs.Leads.{PlaceDivides}
 use Rattle.sf_groebner.specs.ReducedBases.{lead_divides, is_divided, IsMonic}
 use Rattle.sf_algebra.proofs.Weights.{field_ring}
@@ -58,8 +58,8 @@ is_divided-position (v ∷ vs) k h =
 abbrev pub step : List Vector → ℕ → Term Place → Term Place
 step rows i t = record { at = record { position = i; monomial = quotient t.at.monomial (lead_at rows i).monomial }; coefficient = t.coefficient }
 
-pub image-step : (rows : List Vector) (i : ℕ) (t : Term Place) → PlaceDivides (lead_at rows i) t.at → image (lead_at rows) (step rows i t).at ≡ t.at
-image-step rows i t h = place_product-quotient (lead_at rows i) t.at h
+pub lead_multiple-step : (rows : List Vector) (i : ℕ) (t : Term Place) → PlaceDivides (lead_at rows i) t.at → lead_multiple (lead_at rows) (step rows i t).at ≡ t.at
+lead_multiple-step rows i t h = place_product-quotient (lead_at rows i) t.at h
 
 module _ (ring : Ring) (target : List ℤ) (rows : List Vector) (monic : AllByRecursion (IsMonicVector ring target) rows) where
   pub monic_row : (i : ℕ) → i < length rows → IsMonicVector ring target (record { degree = generator_degree (degrees_of rows) i; terms = row_at rows i })
@@ -68,9 +68,9 @@ module _ (ring : Ring) (target : List ℤ) (rows : List Vector) (monic : AllByRe
   pub monic_homogeneous : HasHomogeneousRows ring.weights target rows
   monic_homogeneous = AllByRecursion-weaken _ _ (λ v h. h.vector.homogeneous) rows monic
 
-  pub row_multiple : IsOverField ring → (i : ℕ) → i < length rows → (t : Term Place) → IsNonzeroResidue ring.modulus t → PlaceDivides (lead_at rows i) t.at
+  pub multiple_at : IsOverField ring → (i : ℕ) → i < length rows → (t : Term Place) → IsNonzeroResidue ring.modulus t → PlaceDivides (lead_at rows i) t.at
       → (us : List (Term Place)) × (row_combination ring rows (step rows i t ∷ []) ≡ t ∷ us)
-  row_multiple prime i within t nonzero divides =
+  multiple_at prime i within t nonzero divides =
       let row = monic_row i within in
       let shape = IsMonic-shape (row_at rows i) row.monic in
       let s : Term _ = record { at = quotient t.at.monomial (lead_at rows i).monomial; coefficient = t.coefficient } in
@@ -92,7 +92,7 @@ module _ (ring : Ring) (target : List ℤ) (rows : List Vector) (monic : AllByRe
       let row = monic_row i within in
       let shape = IsMonic-shape (row_at rows i) row.monic in
       let lead : Term Place = record { at = lead_at rows i; coefficient = 1 } in
-      let own : generator_degree (degrees_of rows) i ≡ term_degree ring.weights target lead =
+      let own : generator_degree (degrees_of rows) i ≡ place_degree ring.weights target lead.at =
       (subst (IsHomogeneous ring.weights target (generator_degree (degrees_of rows) i)) shape row.vector.homogeneous).0.1 in
       let sums : monomial_degree ring.weights t.at.monomial ≡ monomial_degree ring.weights (lead_at rows i).monomial + monomial_degree ring.weights (quotient t.at.monomial (lead_at rows i).monomial) =
       ap (monomial_degree ring.weights) (sym (product-quotient t.at.monomial (lead_at rows i).monomial divides.1)) ∙ monomial_degree-product ring.weights (lead_at rows i).monomial (quotient t.at.monomial (lead_at rows i).monomial) in

@@ -10,19 +10,19 @@ use Rattle.sf_algebra.specs.Monomials.{Monomial, monomial_degree}
 use Rattle.sf_algebra.specs.Multiples.{place_product}
 use Rattle.sf_algebra.specs.Rings.{Weights, IsRing}
 use Rattle.sf_algebra.specs.Terms.{Term}
-use Rattle.sf_algebra.specs.Vectors.{Place, generator_degree, IsHomogeneous, IsTermOfDegree}
+use Rattle.sf_algebra.specs.Vectors.{Place, generator_degree, IsHomogeneous, IsTermOfDegree, place_degree}
 use Rattle.sf_algebra.proofs.Degrees.{IsHomogeneous-row_at, IsHomogeneous-row_combination}
 use Rattle.sf_algebra.proofs.DegreeParts.{IsHomogeneous-degree_part, row_combination-degree_part}
 use Rattle.sf_algebra.proofs.Filters.{AllByRecursion-filter_keeps}
 use Rattle.sf_algebra.proofs.HomogeneousVectors.{HasHomogeneousRows-from_IsMatrix}
 use Rattle.sf_algebra.proofs.Products.{monomial_degree-product}
-use Rattle.sf_groebner.specs.Criterion.{HasImageBelow, HaveLeadsAtOnePosition, IsMonicRow, ReducesToZero, image, lcm_place, lead_at, lead_place, pair_place, pair_terms, place_degree}
+use Rattle.sf_groebner.specs.Criterion.{HasMultipleBelow, HaveLeadsAtOnePosition, IsMonicRow, ReducesToZero, lead_multiple, lcm_place, lead_at, lead_place, pair_place, s_coefficients}
 use Rattle.sf_groebner.specs.ReducedBases.{IsMonic}
 use Rattle.sf_groebner.proofs.Items.{AllByRecursion-both}
 use Rattle.sf_groebner.proofs.Images.{IsSettled}
 use Rattle.sf_groebner.proofs.Kernels.{IsZero, settled-reduces}
 use Rattle.sf_groebner.proofs.MonicRows.{IsMonicRow-row_at}
-use Rattle.sf_groebner.proofs.Pairs.{image-pair_place, lcm_place-comm}
+use Rattle.sf_groebner.proofs.Pairs.{lead_multiple-pair_place, lcm_place-comm}
 
 -- a place for a row whose degree is d
 abbrev pub HasPlaceOfDegree : Weights → List ℤ → ℤ → Place → Type 0
@@ -39,7 +39,7 @@ place_degree-lead weights target d (t ∷ ts) monic h = h.0.1
 
 module _ (m : Matrix) (is_matrix : IsMatrix m) (monic : AllByRecursion (IsMonicRow m.ring) m.rows) where
   -- an image has the degree of the coefficient's place
-  pub place_degree-image : (k : Place) → k.position < length m.rows → place_degree m.ring.weights m.target (image (lead_at m.rows) k) ≡ place_degree m.ring.weights (row_degrees m) k
+  pub place_degree-image : (k : Place) → k.position < length m.rows → place_degree m.ring.weights m.target (lead_multiple (lead_at m.rows) k) ≡ place_degree m.ring.weights (row_degrees m) k
   place_degree-image k within =
       place_degree-product m.ring.weights m.target k.monomial (lead_at m.rows k.position)
       ∙ ap (λ d. d +ℤ pos (monomial_degree m.ring.weights k.monomial))
@@ -49,14 +49,14 @@ module _ (m : Matrix) (is_matrix : IsMatrix m) (monic : AllByRecursion (IsMonicR
 
   -- the degree of a pair of rows: that of the least common multiple of their leads
   pub place_degree-pair_place : (i j : ℕ) → i < length m.rows → place_degree m.ring.weights (row_degrees m) (pair_place (lead_at m.rows) i j) ≡ place_degree m.ring.weights m.target (lcm_place (lead_at m.rows) i j)
-  place_degree-pair_place i j within = sym (place_degree-image (pair_place (lead_at m.rows) i j) within) ∙ ap (place_degree m.ring.weights m.target) (image-pair_place (lead_at m.rows) i j)
+  place_degree-pair_place i j within = sym (place_degree-image (pair_place (lead_at m.rows) i j) within) ∙ ap (place_degree m.ring.weights m.target) (lead_multiple-pair_place (lead_at m.rows) i j)
 
   module _ (positive : IsRing m.ring) (i j : ℕ) (i_in : i < length m.rows) (j_in : j < length m.rows) (positions : HaveLeadsAtOnePosition m.rows i j) (f : ℤ)
       (of_pair : f ≡ place_degree m.ring.weights (row_degrees m) (pair_place (lead_at m.rows) i j)) where
     within : (k : ℕ) → k < length m.rows → k < length (row_degrees m)
     within k h = simp length-map h
 
-    pub IsHomogeneous-pair_terms : IsHomogeneous m.ring.weights (row_degrees m) f (pair_terms m.ring.modulus (lead_at m.rows) i j)
+    pub IsHomogeneous-pair_terms : IsHomogeneous m.ring.weights (row_degrees m) f (s_coefficients m.ring.modulus (lead_at m.rows) i j)
     IsHomogeneous-pair_terms = (
       (within i i_in, of_pair),
       (
@@ -75,7 +75,7 @@ module _ (m : Matrix) (is_matrix : IsMatrix m) (monic : AllByRecursion (IsMonicR
     pub ReducesToZero-degree : ReducesToZero m.ring m.rows i j → (r : ReducesToZero m.ring m.rows i j) × IsHomogeneous m.ring.weights (row_degrees m) f r.steps
     ReducesToZero-degree h =
         let rows_homogeneous = HasHomogeneousRows-from_IsMatrix m is_matrix in
-        let pair_homogeneous = IsHomogeneous-row_combination m.target m.ring m.rows rows_homogeneous f (pair_terms m.ring.modulus (lead_at m.rows) i j) IsHomogeneous-pair_terms in (
+        let pair_homogeneous = IsHomogeneous-row_combination m.target m.ring m.rows rows_homogeneous f (s_coefficients m.ring.modulus (lead_at m.rows) i j) IsHomogeneous-pair_terms in (
           record {
             steps = degree_part m.ring.weights (row_degrees m) f h.steps;
             below = AllByRecursion-filter_keeps _ (has_degree m.ring.weights (row_degrees m) f) h.steps h.below;
@@ -92,7 +92,7 @@ module _ (m : Matrix) (is_matrix : IsMatrix m) (monic : AllByRecursion (IsMonicR
         let r = ReducesToZero-degree h in
         settled-reduces m.ring positive m.rows (λ u. HasPlaceOfDegree m.ring.weights (row_degrees m) (f +ℤ pos (monomial_degree m.ring.weights a)) (place_product a u)) (lead_at m.rows) i j positions r.0.steps
         (AllByRecursion-both _ _ _
-        (λ (u : Term Place) (below : HasImageBelow m.ring.weights m.rows (lcm_place (lead_at m.rows) i j) u) (degree : IsTermOfDegree m.ring.weights (row_degrees m) f u).
+        (λ (u : Term Place) (below : HasMultipleBelow m.ring.weights m.rows (lcm_place (lead_at m.rows) i j) u) (degree : IsTermOfDegree m.ring.weights (row_degrees m) f u).
         ((degree.0, ap (λ g. g +ℤ pos (monomial_degree m.ring.weights a)) degree.1 ∙ sym (place_degree-product m.ring.weights (row_degrees m) a u.at)), below.1))
         r.0.steps r.0.below r.1)
         r.0.value

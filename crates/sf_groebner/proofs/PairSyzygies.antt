@@ -6,7 +6,8 @@ use Rattle.sf_algebra.specs.Multiples.{place_product, term_product}
 use Rattle.sf_algebra.specs.Rings.{Ring, IsRing}
 use Rattle.sf_algebra.specs.Sums.{normal, add}
 use Rattle.sf_algebra.specs.Terms.{Term}
-use Rattle.sf_algebra.specs.Vectors.{Place, Vector, place_cmp, IsTermOfDegree}
+use Rattle.sf_algebra.specs.VectorOperations.{row_sum}
+use Rattle.sf_algebra.specs.Vectors.{Place, Vector, place_cmp, IsTermOfDegree, place_degree}
 use Rattle.sf_algebra.proofs.Degrees.{IsHomogeneous-normal}
 use Rattle.sf_algebra.proofs.Keys.{place_keys}
 use Rattle.sf_algebra.proofs.Lists.{AllByRecursion-append}
@@ -14,7 +15,7 @@ use Rattle.sf_algebra.proofs.Negatives.{negative_one_term}
 use Rattle.sf_algebra.proofs.Normal.{IsCanonical-normal}
 use Rattle.sf_algebra.proofs.Orders.{place_cmp_linear}
 use Rattle.sf_algebra.proofs.SameTotals.{SameTotals-append, SameTotals-equal, SameTotals-negative, SameTotals-normal, SameTotals-refl, SameTotals-swap, SameTotals-trans, normal-SameTotals}
-use Rattle.sf_groebner.specs.Criterion.{HaveLeadsAtOnePosition, IsMonicRow, IsPairSyzygy, ReducesToZero, lead_at, pair_place, pair_terms, place_degree}
+use Rattle.sf_groebner.specs.Criterion.{HaveLeadsAtOnePosition, IsMonicRow, IsPairSyzygy, ReducesToZero, lead_at, pair_place, s_coefficients}
 use Rattle.sf_groebner.specs.Spans.{IsSyzygy}
 use Rattle.sf_groebner.proofs.Kernels.{row_combination-SameTotals, row_combination-append_zero_first, row_combination-difference}
 use Rattle.sf_groebner.proofs.Multiplied.{EachPlace-constant}
@@ -24,13 +25,13 @@ use Rattle.sf_groebner.proofs.Schreyer.{SameTotals-from_sum}
 module _ (ring : Ring) (positive : IsRing ring) (rows : List Vector) (i j : ℕ) where
   -- the coefficients of a pair without the steps
   abbrev pub pair_difference : List (Term Place) → List (Term Place)
-  pair_difference steps = pair_terms ring.modulus (lead_at rows) i j ++ map (term_product place_product ring.modulus (negative_one_term ring.modulus)) steps
+  pair_difference steps = s_coefficients ring.modulus (lead_at rows) i j ++ map (term_product place_product ring.modulus (negative_one_term ring.modulus)) steps
 
-  add-pair_difference : (steps : List (Term Place)) → add (place_cmp ring.weights) ring.modulus (normal (place_cmp ring.weights) ring.modulus (pair_difference steps)) steps ≡ normal (place_cmp ring.weights) ring.modulus (pair_terms ring.modulus (lead_at rows) i j)
+  add-pair_difference : (steps : List (Term Place)) → row_sum ring (normal (place_cmp ring.weights) ring.modulus (pair_difference steps)) steps ≡ normal (place_cmp ring.weights) ring.modulus (s_coefficients ring.modulus (lead_at rows) i j)
   unfolding add
   add-pair_difference steps =
       let minus : List (Term Place) = map (term_product place_product ring.modulus (negative_one_term ring.modulus)) steps in
-      let terms = pair_terms ring.modulus (lead_at rows) i j in
+      let terms = s_coefficients ring.modulus (lead_at rows) i j in
       normal-SameTotals (place_cmp ring.weights) (place_cmp_linear ring.weights) ring.modulus positive.modulus
       (SameTotals-trans ring.modulus (SameTotals-append ring.modulus (SameTotals-normal (place_cmp ring.weights) (place_cmp_linear ring.weights) ring.modulus (terms ++ minus)) (SameTotals-refl ring.modulus steps))
       (SameTotals-trans ring.modulus (SameTotals-equal ring.modulus _ _ (append_assoc terms minus steps))
@@ -44,7 +45,7 @@ module _ (ring : Ring) (positive : IsRing ring) (rows : List Vector) (i j : ℕ)
     below = h.below;
     sum = add-pair_difference h.steps;
     zero = row_combination-SameTotals ring positive rows (SameTotals-normal (place_cmp ring.weights) (place_cmp_linear ring.weights) ring.modulus (pair_difference h.steps))
-        ∙ row_combination-difference ring positive rows (pair_terms ring.modulus (lead_at rows) i j) h.steps (sym h.value);
+        ∙ row_combination-difference ring positive rows (s_coefficients ring.modulus (lead_at rows) i j) h.steps (sym h.value);
   }
 
   pub ReducesToZero-IsPairSyzygy : (z : List (Term Place)) → IsPairSyzygy ring rows i j z → ReducesToZero ring rows i j
@@ -52,7 +53,7 @@ module _ (ring : Ring) (positive : IsRing ring) (rows : List Vector) (i j : ℕ)
     steps = h.steps;
     below = h.below;
     value = sym (row_combination-append_zero_first ring positive rows z h.steps h.zero)
-        ∙ row_combination-SameTotals ring positive rows (SameTotals-from_sum ring z h.steps (pair_terms ring.modulus (lead_at rows) i j) h.sum);
+        ∙ row_combination-SameTotals ring positive rows (SameTotals-from_sum ring z h.steps (s_coefficients ring.modulus (lead_at rows) i j) h.sum);
   }
 
 -- a homogeneous syzygy
@@ -68,7 +69,7 @@ homogeneous_syzygy m is_matrix monic positive i j i_in j_in positions h =
         coefficients = record {
           canonical = IsCanonical-normal (place_cmp m.ring.weights) (place_cmp_linear m.ring.weights) m.ring.modulus positive.modulus (pair_difference m.ring positive m.rows i j r.0.steps);
           homogeneous = IsHomogeneous-normal (row_degrees m) m.ring d (pair_difference m.ring positive m.rows i j r.0.steps)
-              (AllByRecursion-append (IsTermOfDegree m.ring.weights (row_degrees m) d) (pair_terms m.ring.modulus (lead_at m.rows) i j) _
+              (AllByRecursion-append (IsTermOfDegree m.ring.weights (row_degrees m) d) (s_coefficients m.ring.modulus (lead_at m.rows) i j) _
               (IsHomogeneous-pair_terms m is_matrix monic positive i j i_in j_in positions d refl)
               (EachPlace-constant (HasPlaceOfDegree m.ring.weights (row_degrees m) d) m.ring.modulus _ r.0.steps r.1));
         };

@@ -9,7 +9,7 @@ use Rattle.sf_algebra.specs.MatrixOperations.{part_terms, moved}
 use Rattle.sf_algebra.specs.Monomials.{monomial_degree}
 use Rattle.sf_algebra.specs.Rings.{Ring, Weights}
 use Rattle.sf_algebra.specs.Terms.{Term, IsDescending, IsCanonical}
-use Rattle.sf_algebra.specs.Vectors.{Place, place_cmp, IsTermOfDegree, IsHomogeneous, IsVector}
+use Rattle.sf_algebra.specs.Vectors.{Place, place_cmp, IsTermOfDegree, IsHomogeneous, IsVector, IsCanonicalRow}
 use Rattle.sf_algebra.proofs.KroneckerUnits.{IsCanonical-moved}
 use Rattle.sf_algebra.proofs.Lists.{AllByRecursion-append, AllByRecursion-weaken}
 use Rattle.sf_algebra.proofs.MatrixRows.{IsWithin}
@@ -18,8 +18,8 @@ use Rattle.sf_algebra.proofs.Positions.{place_cmp-later}
 use Rattle.sf_groebner.proofs.PartLeads.{later_positions, part_terms-past, part_terms-before}
 
 -- the terms of us, and behind them those of vs, n positions further on
-abbrev pub pair_terms : ℕ → List (Term Place) → List (Term Place) → List (Term Place)
-pair_terms n us vs = us ++ moved n vs
+abbrev pub paired_terms : ℕ → List (Term Place) → List (Term Place) → List (Term Place)
+paired_terms n us vs = us ++ moved n vs
 
 moved_past : (n : ℕ) (vs : List (Term Place)) → AllByRecursion (λ t. n ≤ t.at.position) (moved n vs)
 moved_past n [] = tt
@@ -34,13 +34,13 @@ part_terms-moved n k (v ∷ vs) h =
     ∙ (λ i. record { at = record { position = back i; monomial = v.at.monomial }; coefficient = v.coefficient } ∷ part_terms-moved n k vs h.1 i)
 
 -- the first part of a pair, and the last
-pub part_terms-pair_first : (n : ℕ) (us vs : List (Term Place)) → IsWithin n us → part_terms 0 n (pair_terms n us vs) ≡ us
+pub part_terms-pair_first : (n : ℕ) (us vs : List (Term Place)) → IsWithin n us → part_terms 0 n (paired_terms n us vs) ≡ us
 part_terms-pair_first n us vs h =
     part_terms-append 0 n us (moved n vs)
     ∙ (λ i. part_terms-whole n us h i ++ part_terms-past n (moved n vs) (moved_past n vs) i)
     ∙ append-nil us
 
-pub part_terms-pair_last : (n k : ℕ) (us vs : List (Term Place)) → IsWithin n us → IsWithin k vs → part_terms n (n + k) (pair_terms n us vs) ≡ vs
+pub part_terms-pair_last : (n k : ℕ) (us vs : List (Term Place)) → IsWithin n us → IsWithin k vs → part_terms n (n + k) (paired_terms n us vs) ≡ vs
 part_terms-pair_last n k us vs h l =
     part_terms-append n (n + k) us (moved n vs)
     ∙ (λ i. part_terms-before n (n + k) us h i ++ part_terms-moved n k vs l i)
@@ -49,7 +49,7 @@ IsDescending-append : (weights : Weights) (us vs : List (Term Place)) → IsDesc
 IsDescending-append weights [] vs h k below = k
 IsDescending-append weights (u ∷ us) vs h k below = (AllByRecursion-append _ us vs h.0 below.0, IsDescending-append weights us vs h.1 k below.1)
 
-pub IsCanonical-pair : (ring : Ring) (n : ℕ) (us vs : List (Term Place)) → IsWithin n us → IsCanonical (place_cmp ring.weights) ring.modulus us → IsCanonical (place_cmp ring.weights) ring.modulus vs → IsCanonical (place_cmp ring.weights) ring.modulus (pair_terms n us vs)
+pub IsCanonical-pair : (ring : Ring) (n : ℕ) (us vs : List (Term Place)) → IsWithin n us → IsCanonicalRow ring us → IsCanonicalRow ring vs → IsCanonicalRow ring (paired_terms n us vs)
 IsCanonical-pair ring n us vs within h k =
     let shifted = IsCanonical-moved ring n vs k in
     record {
@@ -81,27 +81,27 @@ module _ (target source : List ℤ) (d : ℤ) where
   )
 
   pub IsVector-pair : (ring : Ring) (us vs : List (Term Place)) → IsVector ring target (record { degree = d; terms = us }) → IsVector ring source (record { degree = d; terms = vs })
-      → IsVector ring (target ++ source) (record { degree = d; terms = pair_terms (length target) us vs })
+      → IsVector ring (target ++ source) (record { degree = d; terms = paired_terms (length target) us vs })
   IsVector-pair ring us vs h k = record {
     canonical = IsCanonical-pair ring (length target) us vs (AllByRecursion-weaken _ _ (λ t e. e.0) us h.homogeneous) h.canonical k.canonical;
     homogeneous = AllByRecursion-append _ us (moved (length target) vs) (first_degrees ring.weights us h.homogeneous) (last_degrees ring.weights vs k.homogeneous);
   }
 
 -- each vector over both is a pair of its parts
-pub pair_terms-parts : (weights : Weights) (n k : ℕ) (ts : List (Term Place)) → IsDescending (place_cmp weights) ts → IsWithin (n + k) ts → pair_terms n (part_terms 0 n ts) (part_terms n (n + k) ts) ≡ ts
-pair_terms-parts weights n k [] h within = refl
-pair_terms-parts weights n k (t ∷ ts) h within =
+pub paired_terms-parts : (weights : Weights) (n k : ℕ) (ts : List (Term Place)) → IsDescending (place_cmp weights) ts → IsWithin (n + k) ts → paired_terms n (part_terms 0 n ts) (part_terms n (n + k) ts) ≡ ts
+paired_terms-parts weights n k [] h within = refl
+paired_terms-parts weights n k (t ∷ ts) h within =
     let inside : t.at.position < n + k = within.0 in
-    let rest = pair_terms-parts weights n k ts h.1 within.1 in
+    let rest = paired_terms-parts weights n k ts h.1 within.1 in
     elim (cases_lt t.at.position n) [
       | inl before ↦
           let same : t.at.position - 0 ≡ t.at.position = omega arith in
-          (λ i. pair_terms n (part_terms-inside 0 n t ts (omega arith) before i) (part_terms-outside n (n + k) t ts (inl before) i))
+          (λ i. paired_terms n (part_terms-inside 0 n t ts (omega arith) before i) (part_terms-outside n (n + k) t ts (inl before) i))
           ∙ (λ i. record { at = record { position = same i; monomial = t.at.monomial }; coefficient = t.coefficient } ∷ rest i)
       | inr reached ↦
           let same : n + (t.at.position - n) ≡ t.at.position = omega arith in
           let none : part_terms 0 n ts ≡ [] = part_terms-past n ts (later_positions weights n t ts h reached).1 in
-          (λ i. pair_terms n (part_terms-outside 0 n t ts (inr reached) i) (part_terms-inside n (n + k) t ts reached inside i))
+          (λ i. paired_terms n (part_terms-outside 0 n t ts (inr reached) i) (part_terms-inside n (n + k) t ts reached inside i))
           ∙ ap (λ us. us ++ (record { at = record { position = n + (t.at.position - n); monomial = t.at.monomial }; coefficient = t.coefficient } ∷ moved n (part_terms n (n + k) ts))) none
           ∙ (λ i. record { at = record { position = same i; monomial = t.at.monomial }; coefficient = t.coefficient } ∷ (sym (ap (λ us. us ++ moved n (part_terms n (n + k) ts)) none) ∙ rest) i)
     ]

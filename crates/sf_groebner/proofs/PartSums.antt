@@ -7,6 +7,7 @@ use Rattle.sf_algebra.specs.Residues.{sum_mod}
 use Rattle.sf_algebra.specs.Rings.{Ring, IsRing}
 use Rattle.sf_algebra.specs.Sums.{add, total}
 use Rattle.sf_algebra.specs.Terms.{Term}
+use Rattle.sf_algebra.specs.VectorOperations.{row_sum}
 use Rattle.sf_algebra.specs.Vectors.{Place, place_cmp}
 use Rattle.sf_algebra.proofs.Coefficients.{same_from_total}
 use Rattle.sf_algebra.proofs.DoubleTotals.{total-map}
@@ -15,6 +16,7 @@ use Rattle.sf_algebra.proofs.Normal.{IsCanonical-add}
 use Rattle.sf_algebra.proofs.Orders.{place_cmp_linear}
 use Rattle.sf_algebra.proofs.PartTerms.{moved_back, cases_between, part_terms-inside, part_terms-outside, IsCanonical-part_terms}
 use Rattle.sf_algebra.proofs.Residues.{sum_mod-zero}
+use Rattle.sf_algebra.proofs.RowSums.{IsCanonical-row_sum}
 use Rattle.sf_algebra.proofs.Totals.{IsAdditive, total-add}
 
 -- a number for each term in the range, once moved, and 0 for the others
@@ -42,12 +44,12 @@ total-part_terms p from to g ts =
     total-map p g (moved_back from) _ ∙ total-filter (λ (t : Term Place). nat_le from t.at.position && nat_lt t.at.position to) p (λ t. g (moved_back from t)) ts
 
 module _ (ring : Ring) (from to : ℕ) where
-  pub part_terms-add : IsRing ring → (us vs : List (Term Place)) → part_terms from to (add (place_cmp ring.weights) ring.modulus us vs) ≡ add (place_cmp ring.weights) ring.modulus (part_terms from to us) (part_terms from to vs)
+  pub part_terms-add : IsRing ring → (us vs : List (Term Place)) → part_terms from to (row_sum ring us vs) ≡ row_sum ring (part_terms from to us) (part_terms from to vs)
   part_terms-add positive us vs =
-      same_from_total (place_cmp ring.weights) (place_cmp_linear ring.weights) ring.modulus positive.modulus _ _ (IsCanonical-part_terms ring from to _ (IsCanonical-add (place_cmp ring.weights) (place_cmp_linear ring.weights) ring.modulus positive.modulus us vs))
-      (IsCanonical-add (place_cmp ring.weights) (place_cmp_linear ring.weights) ring.modulus positive.modulus (part_terms from to us) (part_terms from to vs))
+      same_from_total (place_cmp ring.weights) (place_cmp_linear ring.weights) ring.modulus positive.modulus _ _ (IsCanonical-part_terms ring from to _ (IsCanonical-row_sum ring positive.modulus us vs))
+      (IsCanonical-row_sum ring positive.modulus (part_terms from to us) (part_terms from to vs))
       (λ g additive.
-      total-part_terms ring.modulus from to g (add (place_cmp ring.weights) ring.modulus us vs)
+      total-part_terms ring.modulus from to g (row_sum ring us vs)
       ∙ total-add (place_cmp ring.weights) (place_cmp_linear ring.weights) ring.modulus (at_part from to g) (at_part-additive ring.modulus from to g additive) us vs
       ∙ (λ i. sum_mod ring.modulus (sym (total-part_terms ring.modulus from to g us) i) (sym (total-part_terms ring.modulus from to g vs) i))
       ∙ sym (total-add (place_cmp ring.weights) (place_cmp_linear ring.weights) ring.modulus g additive (part_terms from to us) (part_terms from to vs)))
@@ -68,5 +70,5 @@ module _ (ring : Ring) (from to : ℕ) where
 
   -- the part of a difference
   pub part_terms-difference : IsRing ring → (us vs : List (Term Place))
-      → part_terms from to (add (place_cmp ring.weights) ring.modulus us (negative ring.modulus vs)) ≡ add (place_cmp ring.weights) ring.modulus (part_terms from to us) (negative ring.modulus (part_terms from to vs))
-  part_terms-difference positive us vs = part_terms-add positive us (negative ring.modulus vs) ∙ ap (add (place_cmp ring.weights) ring.modulus (part_terms from to us)) (part_terms-negative vs)
+      → part_terms from to (row_sum ring us (negative ring.modulus vs)) ≡ row_sum ring (part_terms from to us) (negative ring.modulus (part_terms from to vs))
+  part_terms-difference positive us vs = part_terms-add positive us (negative ring.modulus vs) ∙ ap (row_sum ring (part_terms from to us)) (part_terms-negative vs)

@@ -30,12 +30,12 @@ HasBasis weights N = (basis : List Vector) × IsReducedBasis weights N basis
 
 -- the relations of the rows of a modulo the span of those of b
 pub relation_basis : (a b : Matrix) → IsOverField a.ring → a.ring ≡ b.ring → a.target ≡ b.target → IsMatrix a → IsMatrix b → HasBasis a.ring.weights (IsRelation a (InSpan b))
-relation_basis a b prime moduli targets h k =
+relation_basis a b prime rings targets h k =
     let m = stacked a b in
     let positive : IsRing a.ring = field_ring prime in
-    let s = syzygy_basis m prime (IsMatrix-stacked a b moduli targets h k) in (
+    let s = syzygy_basis m prime (IsMatrix-stacked a b rings targets h k) in (
       _,
-      IsReducedBasis-same a.ring.weights (IsFirstBlock a b) (IsRelation a (InSpan b)) (λ v. (IsRelation-blocks a b positive moduli v).1) (λ v. (IsRelation-blocks a b positive moduli v).0) _
+      IsReducedBasis-same a.ring.weights (IsFirstBlock a b) (IsRelation a (InSpan b)) (λ v. (IsRelation-blocks a b positive rings v).1) (λ v. (IsRelation-blocks a b positive rings v).0) _
           (reduced-first_parts m.ring (row_degrees m) (IsSyzygy m) (λ w l. l.coefficients) (length a.rows) s.0 s.1),
     )
 
@@ -63,10 +63,10 @@ module _ (ring : Ring) (prime : IsOverField ring) (target : List ℤ) (N : Vecto
         generators,
         matrix_of ring (row_degrees generators) r.generators,
         record {
-          generators_modulus = refl;
+          generators_ring = refl;
           generators_target = refl;
           generators_minimal = g.minimal;
-          relations_modulus = refl;
+          relations_ring = refl;
           relations_target = refl;
           relations_minimal = r.minimal;
         },
@@ -74,46 +74,46 @@ module _ (ring : Ring) (prime : IsOverField ring) (target : List ℤ) (N : Vecto
 
   -- a module with a reduced basis has a presentation modulo the span of a matrix
   pub presentation_exists : (base : Matrix) → base.ring ≡ ring → base.target ≡ target → IsMatrix base → (generators : Matrix) × (relations : Matrix) × IsPresentation ring target N (InSpan base) generators relations
-  presentation_exists base moduli targets matrix =
-      let same : matrix_of ring target base.rows ≡ base = λ i. record { ring = sym moduli i; target = sym targets i; rows = base.rows } in
+  presentation_exists base rings targets matrix =
+      let same : matrix_of ring target base.rows ≡ base = λ i. record { ring = sym rings i; target = sym targets i; rows = base.rows } in
       let rows : AllByRecursion (IsVector ring target) base.rows = subst (λ (m : Matrix). AllByRecursion (IsVector m.ring m.target) base.rows) (sym same) matrix in
       subst (λ (m : Matrix). (generators : Matrix) × (relations : Matrix) × IsPresentation ring target N (InSpan m) generators relations) same (presentation_modulo_rows base.rows rows)
 
 -- cycles are homogeneous vectors
 cycle-vector : (ring : Ring) (degrees : List ℤ) (out beyond : Matrix) → out.ring ≡ ring → row_degrees out ≡ degrees → (c : Vector) → IsCycle out beyond c → IsVector ring degrees c
-cycle-vector ring degrees out beyond moduli same c h = subst (λ q. IsVector q degrees c) moduli (subst (λ ds. IsVector out.ring ds c) same h.coefficients)
+cycle-vector ring degrees out beyond rings same c h = subst (λ q. IsVector q degrees c) rings (subst (λ ds. IsVector out.ring ds c) same h.coefficients)
 
 pub homology_exists : (arriving here out beyond : Matrix) → IsOverField here.ring → IsPlaceBetween arriving here out beyond
     → (generators : Matrix) × (relations : Matrix) × IsHomology arriving here out beyond generators relations
 homology_exists arriving here out beyond prime h =
-    presentation_exists here.ring prime here.target (IsCycle out beyond) (cycle-vector here.ring here.target out beyond h.out_modulus h.out_degrees)
-    (subst (λ (q : Ring). HasBasis q.weights (IsCycle out beyond)) h.out_modulus
-    (relation_basis out beyond (subst IsOverField (sym h.out_modulus) prime) (h.out_modulus ∙ sym h.beyond_modulus) h.out_target h.out_matrix h.beyond_matrix))
-    (stacked arriving here) h.arriving_modulus h.arriving_target
-    (IsMatrix-stacked arriving here h.arriving_modulus h.arriving_target h.arriving_matrix h.here_matrix)
+    presentation_exists here.ring prime here.target (IsCycle out beyond) (cycle-vector here.ring here.target out beyond h.out_ring h.out_degrees)
+    (subst (λ (q : Ring). HasBasis q.weights (IsCycle out beyond)) h.out_ring
+    (relation_basis out beyond (subst IsOverField (sym h.out_ring) prime) (h.out_ring ∙ sym h.beyond_ring) h.out_target h.out_matrix h.beyond_matrix))
+    (stacked arriving here) h.arriving_ring h.arriving_target
+    (IsMatrix-stacked arriving here h.arriving_ring h.arriving_target h.arriving_matrix h.here_matrix)
 
 pub kernel_exists : (source target map : Matrix) → IsOverField source.ring → IsMatrix source → IsMatrix target → IsModuleMap source target map
     → (generators : Matrix) × (relations : Matrix) × IsKernel source target map generators relations
 kernel_exists source target map prime first second h =
-    presentation_exists source.ring prime source.target (IsCycle map target) (cycle-vector source.ring source.target map target h.source_modulus h.source_degrees)
-    (subst (λ (q : Ring). HasBasis q.weights (IsCycle map target)) h.source_modulus
-    (relation_basis map target (subst IsOverField (sym h.source_modulus) prime) h.target_modulus h.target_degrees h.matrix second))
+    presentation_exists source.ring prime source.target (IsCycle map target) (cycle-vector source.ring source.target map target h.source_ring h.source_degrees)
+    (subst (λ (q : Ring). HasBasis q.weights (IsCycle map target)) h.source_ring
+    (relation_basis map target (subst IsOverField (sym h.source_ring) prime) h.target_ring h.target_degrees h.matrix second))
     source refl refl first
 
 module _ (source target map : Matrix) (prime : IsOverField target.ring) (matrix : IsMatrix target) (h : IsModuleMap source target map) where
   both_matrix : IsMatrix (stacked map target)
-  both_matrix = IsMatrix-stacked map target h.target_modulus h.target_degrees h.matrix matrix
+  both_matrix = IsMatrix-stacked map target h.target_ring h.target_degrees h.matrix matrix
 
   pub image_exists : (generators : Matrix) × (relations : Matrix) × IsImage target map generators relations
   image_exists =
-      let prime_map : IsOverField map.ring = subst IsOverField (sym h.target_modulus) prime in
+      let prime_map : IsOverField map.ring = subst IsOverField (sym h.target_ring) prime in
       let positive : IsRing map.ring = field_ring prime_map in
       presentation_exists target.ring prime target.target (InSpan (stacked map target))
-      (λ v k. subst (λ q. IsVector q target.target v) h.target_modulus (subst (λ ds. IsVector map.ring ds v) h.target_degrees ((span_module (stacked map target) positive both_matrix).vectors v k)))
-      (subst (λ (q : Ring). HasBasis q.weights (InSpan (stacked map target))) h.target_modulus (span_basis (stacked map target) prime_map both_matrix))
+      (λ v k. subst (λ q. IsVector q target.target v) h.target_ring (subst (λ ds. IsVector map.ring ds v) h.target_degrees ((span_module (stacked map target) positive both_matrix).vectors v k)))
+      (subst (λ (q : Ring). HasBasis q.weights (InSpan (stacked map target))) h.target_ring (span_basis (stacked map target) prime_map both_matrix))
       target refl refl matrix
 
   pub cokernel_exists : (generators : Matrix) × (relations : Matrix) × IsCokernel target map generators relations
   cokernel_exists =
       presentation_exists target.ring prime target.target (IsAny target.ring target.target) (λ v k. k) (any_basis target.ring prime target.target)
-      (stacked map target) h.target_modulus h.target_degrees both_matrix
+      (stacked map target) h.target_ring h.target_degrees both_matrix

@@ -22,18 +22,18 @@ pub unique_presentation : (ring : Ring) → IsRing ring → (target degrees : Li
 unique_presentation ring positive target degrees N B one module_like g r h s a b =
     let rows : g.rows ≡ h.rows = unique_minimal ring target N B one g.rows h.rows a.generators_minimal b.generators_minimal in
     let generators : g ≡ h =
-    λ i. record { ring = (a.generators_modulus ∙ sym b.generators_modulus) i; target = (a.generators_target ∙ sym b.generators_target) i; rows = rows i } in
-    let relations_module = relation_module g (subst (λ q. IsRing q) (sym a.generators_modulus) positive) degrees B (subst (λ q. IsModuleLike q degrees B) (sym a.generators_modulus) module_like) in
+    λ i. record { ring = (a.generators_ring ∙ sym b.generators_ring) i; target = (a.generators_target ∙ sym b.generators_target) i; rows = rows i } in
+    let relations_module = relation_module g (subst (λ q. IsRing q) (sym a.generators_ring) positive) degrees B (subst (λ q. IsModuleLike q degrees B) (sym a.generators_ring) module_like) in
     let other : AreMinimal ring (row_degrees g) (IsRelation g B) IsZero s.rows =
     subst (λ x. AreMinimal ring (row_degrees x) (IsRelation x B) IsZero s.rows) (sym generators) b.relations_minimal in
     let relations : r.rows ≡ s.rows =
     unique_minimal ring (row_degrees g) (IsRelation g B) IsZero
-    (subst (λ (q : Ring). HasOneBasis q.weights (IsRelation g B)) a.generators_modulus
-    (unique_reduced g.ring (subst (λ q. IsRing q) (sym a.generators_modulus) positive) (row_degrees g) (IsRelation g B) relations_module))
+    (subst (λ (q : Ring). HasOneBasis q.weights (IsRelation g B)) a.generators_ring
+    (unique_reduced g.ring (subst (λ q. IsRing q) (sym a.generators_ring) positive) (row_degrees g) (IsRelation g B) relations_module))
     r.rows s.rows a.relations_minimal other in (
       generators,
       (λ i. record {
-        ring = (a.relations_modulus ∙ sym b.relations_modulus) i;
+        ring = (a.relations_ring ∙ sym b.relations_ring) i;
         target = (a.relations_target ∙ ap row_degrees generators ∙ sym b.relations_target) i;
         rows = relations i;
       }),

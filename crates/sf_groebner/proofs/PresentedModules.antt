@@ -28,27 +28,27 @@ module _ (ring : Ring) (target : List ℤ) (N B : Vector → Type 0) where
 
 -- a matrix from what its parts are
 as_matrix : (ring : Ring) (degrees : List ℤ) (m : Matrix) → m.ring ≡ ring → m.target ≡ degrees → AllByRecursion (IsVector ring degrees) m.rows → IsMatrix m
-as_matrix ring degrees m modulus same rows =
-    subst (λ q. AllByRecursion (IsVector q m.target) m.rows) (sym modulus) (subst (λ ds. AllByRecursion (IsVector ring ds) m.rows) (sym same) rows)
+as_matrix ring degrees m same_ring same rows =
+    subst (λ q. AllByRecursion (IsVector q m.target) m.rows) (sym same_ring) (subst (λ ds. AllByRecursion (IsVector ring ds) m.rows) (sym same) rows)
 
 module _ (ring : Ring) (target : List ℤ) (N B : Vector → Type 0) (g r : Matrix) (h : IsPresentation ring target N B g r) where
   -- generators and relations are matrices
   pub IsMatrix-generators : ((v : Vector) → N v → IsVector ring target v) → IsMatrix g
-  IsMatrix-generators vectors = as_matrix ring target g h.generators_modulus h.generators_target (minimal-vectors ring target N B target vectors g.rows h.generators_minimal)
+  IsMatrix-generators vectors = as_matrix ring target g h.generators_ring h.generators_target (minimal-vectors ring target N B target vectors g.rows h.generators_minimal)
 
   pub IsMatrix-relations : IsMatrix r
   IsMatrix-relations =
-      as_matrix ring (row_degrees g) r h.relations_modulus h.relations_target
-      (minimal-vectors ring (row_degrees g) (IsRelation g B) IsZero (row_degrees g) (λ v k. subst (λ q. IsVector q (row_degrees g) v) h.generators_modulus k.coefficients) r.rows h.relations_minimal)
+      as_matrix ring (row_degrees g) r h.relations_ring h.relations_target
+      (minimal-vectors ring (row_degrees g) (IsRelation g B) IsZero (row_degrees g) (λ v k. subst (λ q. IsVector q (row_degrees g) v) h.generators_ring k.coefficients) r.rows h.relations_minimal)
 
   -- the presentation of the same modules, given otherwise
   pub IsPresentation-same : (P C : Vector → Type 0) → ((v : Vector) → N v → P v) → ((v : Vector) → P v → N v) → ((v : Vector) → B v → C v) → ((v : Vector) → C v → B v)
       → IsPresentation ring target P C g r
   IsPresentation-same P C to from more less = record {
-    generators_modulus = h.generators_modulus;
+    generators_ring = h.generators_ring;
     generators_target = h.generators_target;
     generators_minimal = AreMinimal-same ring target N P B C to from more less g.rows h.generators_minimal;
-    relations_modulus = h.relations_modulus;
+    relations_ring = h.relations_ring;
     relations_target = h.relations_target;
     relations_minimal =
         AreMinimal-same ring (row_degrees g) (IsRelation g B) (IsRelation g C) IsZero IsZero

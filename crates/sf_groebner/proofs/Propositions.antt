@@ -7,7 +7,7 @@ use Rattle.sf_algebra.specs.Matrices.{Matrix, IsMatrix}
 use Rattle.sf_algebra.specs.Rings.{Ring, Weights}
 use Rattle.sf_algebra.specs.Terms.{Term, IsDescending, IsCanonical}
 use Rattle.sf_algebra.specs.Vectors.{Place, Vector, place_cmp, IsVector}
-use Rattle.sf_groebner.specs.ReducedBases.{IsMonic, HasDividedLead, IsReducedBy, IsApart, IsSorted, IsReducedBasis}
+use Rattle.sf_groebner.specs.ReducedBases.{IsMonic, HasDividedLead, IsReducedBy, IsApart, IsSorted, IsReducedBasis, IsSyzygyBasis, IsGraphBasis}
 use Rattle.sf_groebner.specs.Small.{HasLeadUpTo, IsWithinLimit, HasSmallSize, IsSmall, IsLarge}
 use Rattle.sf_groebner.specs.Spans.{IsSyzygy, IsGraphVector}
 
@@ -63,10 +63,10 @@ IsWithinLimit-prop weights limit basis = hlevel (props, HasLeadUpTo-prop weights
 pub HasSmallSize-prop : (m : Matrix) → IsProp (HasSmallSize m)
 HasSmallSize-prop m = hlevel props
 
-pub syzygy_basis-prop : (m : Matrix) (basis : List Vector) → IsProp (IsReducedBasis m.ring.weights (IsSyzygy m) basis)
+pub syzygy_basis-prop : (m : Matrix) (basis : List Vector) → IsProp (IsSyzygyBasis m basis)
 syzygy_basis-prop m = IsReducedBasis-prop m.ring.weights (IsSyzygy m) (IsSyzygy-prop m)
 
-pub graph_basis-prop : (m : Matrix) (basis : List Vector) → IsProp (IsReducedBasis m.ring.weights (IsGraphVector m) basis)
+pub graph_basis-prop : (m : Matrix) (basis : List Vector) → IsProp (IsGraphBasis m basis)
 graph_basis-prop m = IsReducedBasis-prop m.ring.weights (IsGraphVector m) (IsGraphVector-prop m)
 
 pub IsSmall-prop : (limit : ℕ) (m : Matrix) (basis : List Vector) → IsProp (IsSmall limit m basis)

@@ -1,21 +1,23 @@
 -- The relations of a presentation span all relations, so the coordinates that a lift gives are reduced by them.
 use Rattle.std.proofs.Common.{◌≡◌, ℕ, ◌<◌, List, [], length, refl, sym, ◌∙◌, ap, subst, ℤ, arith}
 use Rattle.sf_algebra.specs.Matrices.{Matrix, row_degrees, IsMatrix}
-use Rattle.sf_algebra.specs.MatrixOperations.{stacked}
+use Rattle.sf_algebra.specs.MatrixOperations.{stacked, vector_part}
 use Rattle.sf_algebra.specs.Multiples.{place_product, combination, negative}
 use Rattle.sf_algebra.specs.Primes.{IsPrime}
 use Rattle.sf_algebra.specs.Rings.{Ring, IsRing, IsOverField}
 use Rattle.sf_algebra.specs.Sums.{add}
 use Rattle.sf_algebra.specs.Terms.{IsCanonical}
-use Rattle.sf_algebra.specs.Vectors.{Vector, place_cmp, IsVector}
+use Rattle.sf_algebra.specs.VectorOperations.{row_sum, vector_difference}
+use Rattle.sf_algebra.specs.Vectors.{Vector, place_cmp, IsVector, IsCanonicalRow}
 use Rattle.sf_algebra.proofs.Keys.{place_keys}
 use Rattle.sf_algebra.proofs.MatrixRows.{row_at-each}
 use Rattle.sf_algebra.proofs.Negatives.{add-negative}
 use Rattle.sf_algebra.proofs.Orders.{place_cmp_linear}
 use Rattle.sf_algebra.proofs.ProductParts.{combination-no_rows}
+use Rattle.sf_algebra.proofs.RowSums.{row_sum-nil_first}
 use Rattle.sf_algebra.proofs.Rows.{IsCanonical-row_combination}
 use Rattle.sf_algebra.proofs.Sums.{add-nil_first}
-use Rattle.sf_groebner.specs.Cuts.{part_of, first_parts, IsFirstBlock}
+use Rattle.sf_groebner.specs.Cuts.{first_parts, IsFirstBlock}
 use Rattle.sf_groebner.specs.Lifts.{IsLift}
 use Rattle.sf_groebner.specs.MinimalGenerators.{IsInSum, matrix_of, AreMinimal}
 use Rattle.sf_groebner.specs.Presentations.{IsZero, IsRelation, IsReducedByRelations}
@@ -25,7 +27,6 @@ use Rattle.sf_algebra.proofs.Weights.{field_ring}
 use Rattle.sf_groebner.proofs.FirstParts.{reduced-first_parts}
 use Rattle.sf_groebner.proofs.GeneratingBases.{AreMinimal-generate, AreMinimal-inside}
 use Rattle.sf_groebner.proofs.Lifts.{reduced-first_block}
-use Rattle.sf_groebner.proofs.Modules.{difference}
 use Rattle.sf_groebner.proofs.Relations.{IsRelation-blocks}
 use Rattle.sf_groebner.proofs.Remainders.{same_reduced}
 use Rattle.sf_groebner.proofs.SameModules.{IsReducedBasis-same}
@@ -38,7 +39,7 @@ pub zero_submodule : (ring : Ring) → IsRing ring → (target : List ℤ) → I
 zero_submodule ring positive target = record {
   module_like = record {
     vectors = λ v h. subst (λ ts. IsVector ring target (record { degree = v.degree; terms = ts })) (sym h) (record { canonical = record { descending = tt; residues = tt }; homogeneous = tt });
-    differences = λ u v h k e. (λ i. add (place_cmp ring.weights) ring.modulus (h i) (negative ring.modulus (k i))) ∙ add-negative (place_keys ring.weights) ring.modulus positive.modulus [] (record { descending = tt; residues = tt });
+    differences = λ u v h k e. (λ i. row_sum ring (h i) (negative ring.modulus (k i))) ∙ add-negative (place_keys ring.weights) ring.modulus positive.modulus [] (record { descending = tt; residues = tt });
   };
   combinations = λ rows inside d c h.
       (λ i. combination (place_cmp ring.weights) place_product ring.modulus (λ k. k.monomial) (λ k. row_at-each (λ ts. ts ≡ []) refl rows inside k.position i) c)
@@ -49,11 +50,11 @@ module _ (m : Matrix) (positive : IsRing m.ring) where
   -- a sum with 0 is in the span
   pub InSpan-sum : (v : Vector) → IsInSum m IsZero v → InSpan m v
   InSpan-sum v h =
-      let canonical : IsCanonical (place_cmp m.ring.weights) m.ring.modulus h.second.terms =
-      subst (λ (x : Vector). IsCanonical (place_cmp m.ring.weights) m.ring.modulus x.terms) (h.in_span).2 (IsCanonical-row_combination m.ring positive.modulus m.rows ((h.in_span).0).terms) in
+      let canonical : IsCanonicalRow m.ring h.second.terms =
+      subst (λ (x : Vector). IsCanonicalRow m.ring x.terms) (h.in_span).2 (IsCanonical-row_combination m.ring positive.modulus m.rows ((h.in_span).0).terms) in
       let terms : h.second.terms ≡ v.terms =
-      sym (add-nil_first (place_cmp m.ring.weights) (place_cmp_linear m.ring.weights) m.ring.modulus positive.modulus h.second.terms canonical)
-      ∙ ap (λ ts. add (place_cmp m.ring.weights) m.ring.modulus ts h.second.terms) (sym h.in_module)
+      sym (row_sum-nil_first m.ring positive.modulus h.second.terms canonical)
+      ∙ ap (λ ts. row_sum m.ring ts h.second.terms) (sym h.in_module)
       ∙ h.sum in
       subst (InSpan m) (λ i. record { degree = h.second_degree i; terms = terms i }) h.in_span
 
@@ -65,8 +66,8 @@ module _ (m : Matrix) (positive : IsRing m.ring) where
     in_span = h;
     first_degree = refl;
     second_degree = refl;
-    sum = add-nil_first (place_cmp m.ring.weights) (place_cmp_linear m.ring.weights) m.ring.modulus positive.modulus v.terms
-        (subst (λ (x : Vector). IsCanonical (place_cmp m.ring.weights) m.ring.modulus x.terms) h.2 (IsCanonical-row_combination m.ring positive.modulus m.rows (h.0).terms));
+    sum = row_sum-nil_first m.ring positive.modulus v.terms
+        (subst (λ (x : Vector). IsCanonicalRow m.ring x.terms) h.2 (IsCanonical-row_combination m.ring positive.modulus m.rows (h.0).terms));
   }
 
 -- minimal generators modulo 0 span the module
@@ -84,18 +85,18 @@ module _ (ring : Ring) (prime : IsOverField ring) (target : List ℤ) (N : Vecto
       v (IsInSum-span (matrix_of ring target generators) positive v h)
 
 -- a matrix of relations of generators modulo the span of base, minimal modulo 0
-module _ (generators base relations : Matrix) (prime : IsOverField generators.ring) (moduli : generators.ring ≡ base.ring) (is_matrix : IsMatrix base) (same_modulus : relations.ring ≡ generators.ring) (same_target : relations.target ≡ row_degrees generators) (minimal : AreMinimal generators.ring (row_degrees generators) (IsRelation generators (InSpan base)) IsZero relations.rows) where
+module _ (generators base relations : Matrix) (prime : IsOverField generators.ring) (rings : generators.ring ≡ base.ring) (is_matrix : IsMatrix base) (same_ring : relations.ring ≡ generators.ring) (same_target : relations.target ≡ row_degrees generators) (minimal : AreMinimal generators.ring (row_degrees generators) (IsRelation generators (InSpan base)) IsZero relations.rows) where
   relations_positive : IsRing generators.ring
   relations_positive = field_ring prime
 
   all_relations : IsSubmodule generators.ring (row_degrees generators) (IsRelation generators (InSpan base))
   all_relations =
-      let base_positive : IsRing base.ring = subst (λ q. IsRing q) moduli relations_positive in
+      let base_positive : IsRing base.ring = subst (λ q. IsRing q) rings relations_positive in
       relation_submodule generators relations_positive base.target (InSpan base)
-      (subst (λ q. IsSubmodule q base.target (InSpan base)) (sym moduli) (span_submodule base base_positive is_matrix))
+      (subst (λ q. IsSubmodule q base.target (InSpan base)) (sym rings) (span_submodule base base_positive is_matrix))
 
   as_rows : matrix_of generators.ring (row_degrees generators) relations.rows ≡ relations
-  as_rows = λ i. record { ring = sym same_modulus i; target = sym same_target i; rows = relations.rows }
+  as_rows = λ i. record { ring = sym same_ring i; target = sym same_target i; rows = relations.rows }
 
   pub InSpan-relations : (c : Vector) → IsRelation generators (InSpan base) c → InSpan relations c
   InSpan-relations c h =
@@ -106,7 +107,7 @@ module _ (generators base relations : Matrix) (prime : IsOverField generators.ri
       InSpan-minimal_inside generators.ring prime (row_degrees generators) (IsRelation generators (InSpan base)) all_relations relations.rows minimal c (subst (λ m. InSpan m c) (sym as_rows) h)
 
   -- the first block of a lift is reduced by the relations
-  pub reduced_coordinates : (v c : Vector) → IsLift (stacked generators base) v c → IsReducedByRelations relations (part_of 0 (length generators.rows) c)
+  pub reduced_coordinates : (v c : Vector) → IsLift (stacked generators base) v c → IsReducedByRelations relations (vector_part 0 (length generators.rows) c)
   reduced_coordinates v c h =
       let m = stacked generators base in
       let n = length generators.rows in
@@ -114,18 +115,18 @@ module _ (generators base relations : Matrix) (prime : IsOverField generators.ri
       record {
         basis = first_parts n h.syzygies;
         reduced_basis = IsReducedBasis-same relations.ring.weights (IsFirstBlock generators base) (InSpan relations)
-            (λ w k. InSpan-relations w ((IsRelation-blocks generators base relations_positive moduli w).1 k))
-            (λ w k. (IsRelation-blocks generators base relations_positive moduli w).0 (IsRelation-span w k))
-            (first_parts n h.syzygies) (subst (λ (q : Ring). IsReducedBasis q.weights (IsFirstBlock generators base) (first_parts n h.syzygies)) (sym same_modulus) blocks);
+            (λ w k. InSpan-relations w ((IsRelation-blocks generators base relations_positive rings w).1 k))
+            (λ w k. (IsRelation-blocks generators base relations_positive rings w).0 (IsRelation-span w k))
+            (first_parts n h.syzygies) (subst (λ (q : Ring). IsReducedBasis q.weights (IsFirstBlock generators base) (first_parts n h.syzygies)) (sym same_ring) blocks);
         reduced = reduced-first_block m n h.syzygies c h.basis h.reduced;
       }
 
 -- vectors that are reduced by relations and equal modulo their span are equal
 pub unique_reduced_vector : (m : Matrix) → IsRing m.ring → IsMatrix m → (v w : Vector) → IsVector m.ring m.target v → IsVector m.ring m.target w → v.degree ≡ w.degree
-    → InSpan m (difference m.ring v w) → IsReducedByRelations m v → IsReducedByRelations m w → v ≡ w
+    → InSpan m (vector_difference m.ring v w) → IsReducedByRelations m v → IsReducedByRelations m w → v ≡ w
 unique_reduced_vector m positive matrix v w hv hw degree inside h k =
     let bases : k.basis ≡ h.basis = unique_reduced m.ring positive m.target (InSpan m) (span_module m positive matrix) k.basis h.basis k.reduced_basis h.reduced_basis in
     let terms : v.terms ≡ w.terms =
-    same_reduced m.ring positive h.basis v w hv.canonical hw.canonical (h.reduced_basis.complete (difference m.ring v w) inside) h.reduced
+    same_reduced m.ring positive h.basis v w hv.canonical hw.canonical (h.reduced_basis.complete (vector_difference m.ring v w) inside) h.reduced
     (subst (λ basis. IsReducedBy basis w.terms) bases k.reduced) in
     λ i. record { degree = degree i; terms = terms i }

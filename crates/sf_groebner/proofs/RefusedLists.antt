@@ -8,7 +8,7 @@ use Rattle.sf_algebra.specs.Terms.{Term}
 use Rattle.sf_algebra.specs.Vectors.{Place, Vector}
 use Rattle.sf_groebner.specs.Examples.{term, vector, first_row, second_row, third_row, quadrics, quadrics_basis}
 use Rattle.sf_groebner.specs.Leads.{place_divides}
-use Rattle.sf_groebner.specs.RefusedBases.{IsComplete, later_lead_in_tail, earlier_lead_in_tail, outside_rows, doubled_row, with_zero, smaller_lead_first, greater_degree_first, RefusesLaterLeadInTail, RefusesEarlierLeadInTail, RefusesOutsideRows, RefusesDoubledRow, RefusesZero, RefusesWithoutThirdRow, RefusesSmallerLeadFirst, RefusesGreaterDegreeFirst}
+use Rattle.sf_groebner.specs.RefusedBases.{HasCompleteLeads, later_lead_in_tail, earlier_lead_in_tail, outside_rows, doubled_row, with_zero, smaller_lead_first, greater_degree_first, RefusesLaterLeadInTail, RefusesEarlierLeadInTail, RefusesOutsideRows, RefusesDoubledRow, RefusesZero, RefusesWithoutThirdRow, RefusesSmallerLeadFirst, RefusesGreaterDegreeFirst}
 use Rattle.sf_groebner.specs.ReducedBases.{HasDividedLead, is_divided, lead_divides}
 use Rattle.sf_groebner.specs.Spans.{InSpan, IsCoefficients, combined}
 use Rattle.sf_groebner.proofs.PlaceDivisors.{Decides-place_divides, PlaceDivides-trans}
@@ -34,7 +34,7 @@ HasDividedLead-from : (vs ws : List Vector) → ((k : Place) → IsTrue (is_divi
 HasDividedLead-from vs ws f [] h = tt
 HasDividedLead-from vs ws f (t ∷ ts) h = f t.at h
 
-complete_from : (ws : List Vector) → ((k : Place) → IsTrue (is_divided quadrics_basis k) → IsTrue (is_divided ws k)) → IsComplete ws
+complete_from : (ws : List Vector) → ((k : Place) → IsTrue (is_divided quadrics_basis k) → IsTrue (is_divided ws k)) → HasCompleteLeads ws
 complete_from ws f v h = HasDividedLead-from quadrics_basis ws f v.terms (quadrics-span.complete v h)
 
 pub refuses_later_lead_in_tail : RefusesLaterLeadInTail

@@ -7,7 +7,8 @@ use Rattle.sf_algebra.specs.Multiples.{negative}
 use Rattle.sf_algebra.specs.Rings.{IsRing}
 use Rattle.sf_algebra.specs.Sums.{add}
 use Rattle.sf_algebra.specs.Terms.{Term, IsCanonical}
-use Rattle.sf_algebra.specs.Vectors.{Place, Vector, place_cmp, IsVector}
+use Rattle.sf_algebra.specs.VectorOperations.{row_sum}
+use Rattle.sf_algebra.specs.Vectors.{Place, Vector, place_cmp, IsVector, IsCanonicalRow}
 use Rattle.sf_algebra.proofs.HomogeneousVectors.{IsVector-negative}
 use Rattle.sf_algebra.proofs.Keys.{place_keys}
 use Rattle.sf_algebra.proofs.Negatives.{IsCanonical-negative, add-negative, negative-negative}
@@ -18,18 +19,18 @@ use Rattle.sf_groebner.specs.Presentations.{IsRelation}
 use Rattle.sf_groebner.specs.Spans.{InSpan, IsSyzygy}
 use Rattle.sf_groebner.proofs.Differences.{add-negative_same}
 use Rattle.sf_groebner.proofs.GraphParts.{IsWithin-coefficients}
-use Rattle.sf_groebner.proofs.PairedVectors.{pair_terms, part_terms-pair_first, IsVector-pair}
+use Rattle.sf_groebner.proofs.PairedVectors.{paired_terms, part_terms-pair_first, IsVector-pair}
 use Rattle.sf_groebner.proofs.StackedSpans.{stack_coefficients, first_coefficients, last_coefficients, row_combination-blocks}
 
-module _ (a b : Matrix) (positive : IsRing a.ring) (moduli : a.ring ≡ b.ring) where
+module _ (a b : Matrix) (positive : IsRing a.ring) (rings : a.ring ≡ b.ring) where
   relation_from_block : (v : Vector) → IsFirstBlock a b v → IsRelation a (InSpan b) v
   relation_from_block v h = subst (IsRelation a (InSpan b)) h.2 (record {
     coefficients = first_coefficients a b h.0 h.1.coefficients;
     inside = (
       record { degree = h.0.degree; terms = negative a.ring.modulus (others h.0) },
-      subst (λ ring. IsVector ring (row_degrees b) (record { degree = h.0.degree; terms = negative a.ring.modulus (others h.0) })) moduli
+      subst (λ ring. IsVector ring (row_degrees b) (record { degree = h.0.degree; terms = negative a.ring.modulus (others h.0) })) rings
           (IsVector-negative a.ring (row_degrees b) h.0.degree (others h.0) (last_coefficients a b h.0 h.1.coefficients)),
-      (λ i. record { degree = h.0.degree; terms = (ap (λ ring. row_combination ring b.rows (negative a.ring.modulus (others h.0))) (sym moduli) ∙ same h.0 h.1) i }),
+      (λ i. record { degree = h.0.degree; terms = (ap (λ ring. row_combination ring b.rows (negative a.ring.modulus (others h.0))) (sym rings) ∙ same h.0 h.1) i }),
     );
   })
     where
@@ -41,11 +42,11 @@ module _ (a b : Matrix) (positive : IsRing a.ring) (moduli : a.ring ≡ b.ring) 
           let last = last_coefficients a b c k.coefficients in
           let first = row_combination a.ring a.rows (part_terms 0 (length a.rows) c.terms) in
           let second = row_combination a.ring b.rows (others c) in
-          let canonical : IsCanonical (place_cmp a.ring.weights) a.ring.modulus second = IsCanonical-row_combination a.ring positive.modulus b.rows (others c) in
+          let canonical : IsCanonicalRow a.ring second = IsCanonical-row_combination a.ring positive.modulus b.rows (others c) in
           row_combination-negative a.ring positive.modulus b.rows (others c) last.canonical
           ∙ sym (add-negative_same (place_keys a.ring.weights) a.ring.modulus positive.modulus first (negative a.ring.modulus second)
           (IsCanonical-row_combination a.ring positive.modulus a.rows (part_terms 0 (length a.rows) c.terms)) (IsCanonical-negative (place_cmp a.ring.weights) a.ring.modulus second canonical)
-          (ap (add (place_cmp a.ring.weights) a.ring.modulus first) (negative-negative (place_cmp a.ring.weights) a.ring.modulus second canonical.residues) ∙ row_combination-blocks a b positive c k.coefficients ∙ k.zero))
+          (ap (row_sum a.ring first) (negative-negative (place_cmp a.ring.weights) a.ring.modulus second canonical.residues) ∙ row_combination-blocks a b positive c k.coefficients ∙ k.zero))
 
   block_from_relation : (v : Vector) → IsRelation a (InSpan b) v → IsFirstBlock a b v
   block_from_relation v h =
@@ -55,17 +56,17 @@ module _ (a b : Matrix) (positive : IsRing a.ring) (moduli : a.ring ≡ b.ring) 
       let degree : d.degree ≡ v.degree = ap (λ x. x.degree) h.inside.2 in
       let coefficients : IsVector ring (row_degrees b) (record { degree = v.degree; terms = negative ring.modulus d.terms }) =
       IsVector-negative ring (row_degrees b) v.degree d.terms
-      (subst (λ e. IsVector ring (row_degrees b) (record { degree = e; terms = d.terms })) degree (subst (λ q. IsVector q (row_degrees b) d) (sym moduli) h.inside.1)) in
-      let pair : IsVector ring (row_degrees a ++ row_degrees b) (record { degree = v.degree; terms = pair_terms (length a.rows) v.terms (negative ring.modulus d.terms) }) =
-      subst (λ n. IsVector ring (row_degrees a ++ row_degrees b) (record { degree = v.degree; terms = pair_terms n v.terms (negative ring.modulus d.terms) })) (length-map a.rows (λ (x : Vector). x.degree))
+      (subst (λ e. IsVector ring (row_degrees b) (record { degree = e; terms = d.terms })) degree (subst (λ q. IsVector q (row_degrees b) d) (sym rings) h.inside.1)) in
+      let pair : IsVector ring (row_degrees a ++ row_degrees b) (record { degree = v.degree; terms = paired_terms (length a.rows) v.terms (negative ring.modulus d.terms) }) =
+      subst (λ n. IsVector ring (row_degrees a ++ row_degrees b) (record { degree = v.degree; terms = paired_terms n v.terms (negative ring.modulus d.terms) })) (length-map a.rows (λ (x : Vector). x.degree))
       (IsVector-pair (row_degrees a) (row_degrees b) v.degree ring v.terms (negative ring.modulus d.terms) h.coefficients coefficients) in
-      let canonical : IsCanonical (place_cmp ring.weights) ring.modulus d.terms = subst (λ q. IsCanonical (place_cmp q.weights) q.modulus d.terms) (sym moduli) h.inside.1.canonical in
-      let value : row_combination ring b.rows d.terms ≡ row_combination ring a.rows v.terms = ap (λ q. row_combination q b.rows d.terms) moduli ∙ ap (λ x. x.terms) h.inside.2 in
-      let zero : row_combination ring (a.rows ++ b.rows) (pair_terms (length a.rows) v.terms (negative ring.modulus d.terms)) ≡ [] =
+      let canonical : IsCanonicalRow ring d.terms = subst (λ q. IsCanonicalRow q d.terms) (sym rings) h.inside.1.canonical in
+      let value : row_combination ring b.rows d.terms ≡ row_combination ring a.rows v.terms = ap (λ q. row_combination q b.rows d.terms) rings ∙ ap (λ x. x.terms) h.inside.2 in
+      let zero : row_combination ring (a.rows ++ b.rows) (paired_terms (length a.rows) v.terms (negative ring.modulus d.terms)) ≡ [] =
       row_combination-stacked ring positive.modulus a.rows b.rows v.terms (negative ring.modulus d.terms) within
-      ∙ ap (add (place_cmp ring.weights) ring.modulus (row_combination ring a.rows v.terms)) (row_combination-negative ring positive.modulus b.rows d.terms canonical ∙ ap (negative ring.modulus) value)
+      ∙ ap (row_sum ring (row_combination ring a.rows v.terms)) (row_combination-negative ring positive.modulus b.rows d.terms canonical ∙ ap (negative ring.modulus) value)
       ∙ add-negative (place_keys ring.weights) ring.modulus positive.modulus (row_combination ring a.rows v.terms) (IsCanonical-row_combination ring positive.modulus a.rows v.terms) in (
-        record { degree = v.degree; terms = pair_terms (length a.rows) v.terms (negative ring.modulus d.terms) },
+        record { degree = v.degree; terms = paired_terms (length a.rows) v.terms (negative ring.modulus d.terms) },
         record { coefficients = stack_coefficients a b _ pair; zero = zero },
         (λ i. record { degree = v.degree; terms = part_terms-pair_first (length a.rows) v.terms (negative ring.modulus d.terms) within i }),
       )

@@ -12,7 +12,8 @@ use Rattle.sf_algebra.specs.Residues.{sum_mod, product_mod, negative_mod}
 use Rattle.sf_algebra.specs.Rings.{Ring, IsRing}
 use Rattle.sf_algebra.specs.Sums.{add, coefficient_at}
 use Rattle.sf_algebra.specs.Terms.{Term, IsCanonical}
-use Rattle.sf_algebra.specs.Vectors.{Place, Vector, place_cmp}
+use Rattle.sf_algebra.specs.VectorOperations.{row_sum}
+use Rattle.sf_algebra.specs.Vectors.{Place, Vector, place_cmp, IsCanonicalRow}
 use Rattle.sf_algebra.proofs.Coefficients.{coefficient_at-head}
 use Rattle.sf_algebra.proofs.GroupLaws.{coefficient_at-add}
 use Rattle.sf_algebra.proofs.Keys.{place_keys}
@@ -25,7 +26,7 @@ use Rattle.sf_algebra.proofs.Residues.{product_mod-reduced, sum_mod-zero}
 use Rattle.sf_algebra.proofs.Rows.{IsCanonical-row_combination, row_combination-append, row_combination-nil}
 use Rattle.sf_algebra.proofs.SameTotals.{SameTotals, SameTotals-append, SameTotals-equal, SameTotals-negative, SameTotals-refl, SameTotals-swap, SameTotals-trans, sum_mod-negative_one}
 use Rattle.sf_algebra.proofs.Totals.{total-cons, total-nil}
-use Rattle.sf_groebner.specs.Criterion.{HasImageBelow, HaveLeadsAtOnePosition, IsForRows, IsMonicRow, ReducesToZero, image, lcm_place, lead_at, lead_place, pair_terms}
+use Rattle.sf_groebner.specs.Criterion.{HasMultipleBelow, HaveLeadsAtOnePosition, IsForRows, IsMonicRow, ReducesToZero, lead_multiple, lcm_place, lead_at, lead_place, s_coefficients}
 use Rattle.sf_groebner.specs.Leads.{PlaceDivides}
 use Rattle.sf_groebner.specs.ReducedBases.{HasDividedLead, is_divided, lead_divides}
 use Rattle.sf_groebner.proofs.Accessible.{IsBelow}
@@ -59,7 +60,7 @@ row-is_divided (v ∷ vs) b h =
 -- c is a combination whose images are less than b
 pub record IsRepresented (ring : Ring) (rows : List Vector) (b : Place) (c : List (Term Place)) : Type 0 where
   pub steps : List (Term Place)
-  pub below : AllByRecursion (HasImageBelow ring.weights rows b) steps
+  pub below : AllByRecursion (HasMultipleBelow ring.weights rows b) steps
   pub value : row_combination ring rows steps ≡ row_combination ring rows c
 
 module _ (ring : Ring) (positive : IsRing ring) (rows : List Vector) (monic : AllByRecursion (IsMonicRow ring) rows) where
@@ -71,28 +72,28 @@ module _ (ring : Ring) (positive : IsRing ring) (rows : List Vector) (monic : Al
     abbrev opposite : Term Place
     opposite = term_product place_product ring.modulus (negative_one_term ring.modulus) step
 
-    image_step : image (lead_at rows) step.at ≡ t.at
-    image_step = place_product-quotient (lead_at rows i) t.at divides
+    multiple_step : lead_multiple (lead_at rows) step.at ≡ t.at
+    multiple_step = place_product-quotient (lead_at rows i) t.at divides
 
-    image_opposite : place_cmp ring.weights (image (lead_at rows) opposite.at) t.at ≡ Equal
-    image_opposite = ap (λ k. place_cmp ring.weights (image (lead_at rows) k) t.at) (place_product-one step.at) ∙ ap (λ k. place_cmp ring.weights k t.at) image_step ∙ tied_itself (place_cmp_total ring.weights) t.at
+    multiple_opposite : place_cmp ring.weights (lead_multiple (lead_at rows) opposite.at) t.at ≡ Equal
+    multiple_opposite = ap (λ k. place_cmp ring.weights (lead_multiple (lead_at rows) k) t.at) (place_product-one step.at) ∙ ap (λ k. place_cmp ring.weights k t.at) multiple_step ∙ tied_itself (place_cmp_total ring.weights) t.at
 
     opposite_most : EachPlace (IsAtMost ring.weights (IsInside rows) (lead_at rows) t.at) (opposite ∷ [])
-    opposite_most = ((within, Equal-not_Greater _ image_opposite), tt)
+    opposite_most = ((within, Equal-not_Greater _ multiple_opposite), tt)
 
     coefficient_at-opposite : coefficient_at (place_cmp ring.weights) ring.modulus t.at (row_combination ring rows (opposite ∷ [])) ≡ product_mod ring.modulus (negative_mod ring.modulus 1) t.coefficient
     coefficient_at-opposite =
         let top = top_part ring.weights (lead_at rows) t.at in
         coefficient_at-top ring (lead_bound rows) (IsInside rows) rows (lead_at rows) (monic_leads ring rows monic (IsInside rows) (λ k h. h)) t.at (opposite ∷ []) opposite_most
         ∙ total-cons ring.modulus top opposite []
-        ∙ (λ k. sum_mod ring.modulus (if is_eq (image_opposite k) then product_mod ring.modulus (negative_mod ring.modulus 1) t.coefficient else 0) (total-nil ring.modulus top k))
+        ∙ (λ k. sum_mod ring.modulus (if is_eq (multiple_opposite k) then product_mod ring.modulus (negative_mod ring.modulus 1) t.coefficient else 0) (total-nil ring.modulus top k))
         ∙ sum_mod-zero ring.modulus (product_mod ring.modulus (negative_mod ring.modulus 1) t.coefficient)
         ∙ product_mod-reduced ring.modulus (negative_mod ring.modulus 1) t.coefficient
 
     -- the lead is gone
     cancelled : (c ts : List (Term Place)) → row_combination ring rows c ≡ t ∷ ts → IsAboveEach (place_cmp ring.weights) t.at (row_combination ring rows (c ++ opposite ∷ []))
     cancelled c ts e =
-        let canonical : IsCanonical (place_cmp ring.weights) ring.modulus (t ∷ ts) = subst (IsCanonical (place_cmp ring.weights) ring.modulus) e (IsCanonical-row_combination ring positive.modulus rows c) in
+        let canonical : IsCanonicalRow ring (t ∷ ts) = subst (IsCanonicalRow ring) e (IsCanonical-row_combination ring positive.modulus rows c) in
         let value = row_combination-append ring positive.modulus rows c (opposite ∷ []) in
         below_at ring t.at (row_combination ring rows (c ++ opposite ∷ [])) (IsCanonical-row_combination ring positive.modulus rows (c ++ opposite ∷ []))
         (subst (EachPlace (λ k. place_cmp ring.weights k t.at ≢ Greater)) (sym value)
@@ -116,10 +117,10 @@ module _ (ring : Ring) (positive : IsRing ring) (rows : List Vector) (monic : Al
     one_step b c ts e less h = record {
       steps = h.steps ++ step ∷ [];
       below = AllByRecursion-append _ h.steps (step ∷ [])
-          (AllByRecursion-weaken _ _ (λ u below. (below.0, (place_cmp_total ring.weights).trans (image (lead_at rows) u.at) t.at b below.1 less)) h.steps h.below)
-          ((within, ap (λ k. place_cmp ring.weights k b) image_step ∙ less), tt);
+          (AllByRecursion-weaken _ _ (λ u below. (below.0, (place_cmp_total ring.weights).trans (lead_multiple (lead_at rows) u.at) t.at b below.1 less)) h.steps h.below)
+          ((within, ap (λ k. place_cmp ring.weights k b) multiple_step ∙ less), tt);
       value = row_combination-append ring positive.modulus rows h.steps (step ∷ [])
-          ∙ ap (λ us. add (place_cmp ring.weights) ring.modulus us (row_combination ring rows (step ∷ []))) h.value
+          ∙ ap (λ us. row_sum ring us (row_combination ring rows (step ∷ []))) h.value
           ∙ sym (row_combination-append ring positive.modulus rows (c ++ opposite ∷ []) (step ∷ []))
           ∙ row_combination-SameTotals ring positive rows (SameTotals-step c);
     }
@@ -146,5 +147,5 @@ module _ (ring : Ring) (positive : IsRing ring) (rows : List Vector) (monic : Al
     -- the pairs reduce to zero
     pub ReducesToZero-complete : (i j : ℕ) → i < length rows → j < length rows → HaveLeadsAtOnePosition rows i j → ReducesToZero ring rows i j
     ReducesToZero-complete i j i_in j_in positions =
-        let h = represented (lcm_place (lead_at rows) i j) (pair_terms ring.modulus (lead_at rows) i j) (i_in, (j_in, tt)) (s_vector-below ring positive rows monic i j i_in j_in positions) in
+        let h = represented (lcm_place (lead_at rows) i j) (s_coefficients ring.modulus (lead_at rows) i j) (i_in, (j_in, tt)) (s_vector-below ring positive rows monic i j i_in j_in positions) in
         record { steps = h.steps; below = h.below; value = h.value }

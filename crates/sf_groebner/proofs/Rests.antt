@@ -7,21 +7,22 @@ use Rattle.sf_algebra.specs.Primes.{IsPrime}
 use Rattle.sf_algebra.specs.Rings.{Ring, IsRing, IsOverField}
 use Rattle.sf_algebra.specs.Sums.{add, normal}
 use Rattle.sf_algebra.specs.Terms.{Term, IsCanonical}
-use Rattle.sf_algebra.specs.Vectors.{Place, Vector, place_cmp, IsVector}
+use Rattle.sf_algebra.specs.VectorOperations.{row_sum, vector_difference}
+use Rattle.sf_algebra.specs.Vectors.{Place, Vector, place_cmp, IsVector, IsCanonicalRow}
 use Rattle.sf_algebra.proofs.Degrees.{degrees_of, IsHomogeneous-normal}
 use Rattle.sf_algebra.proofs.Keys.{place_keys}
 use Rattle.sf_algebra.proofs.Normal.{IsCanonical-normal}
 use Rattle.sf_algebra.proofs.Orders.{place_cmp_linear}
+use Rattle.sf_algebra.proofs.RowSums.{row_sum-comm, row_sum-assoc, row_sum-nil_first}
 use Rattle.sf_algebra.proofs.Rows.{IsCanonical-row_combination}
 use Rattle.sf_algebra.proofs.Sums.{add_assoc, add_comm, add-nil_first}
 use Rattle.sf_groebner.specs.ExistenceLaws.{IsDivision}
 use Rattle.sf_groebner.specs.Presentations.{IsReducedByRelations}
-use Rattle.sf_groebner.specs.ReducedBases.{HasDividedLead, IsReducedBasis}
+use Rattle.sf_groebner.specs.ReducedBases.{HasDividedLead, IsReducedBasis, IsSpanBasis}
 use Rattle.sf_groebner.specs.Spans.{InSpan}
 use Rattle.sf_algebra.proofs.Weights.{field_ring}
 use Rattle.sf_groebner.proofs.Divisions.{divide}
 use Rattle.sf_groebner.proofs.MatrixBases.{basis-monic, span_basis}
-use Rattle.sf_groebner.proofs.Modules.{difference}
 use Rattle.sf_groebner.proofs.Remainders.{IsReducedBy-none, same_reduced}
 use Rattle.sf_groebner.proofs.SpanCombinations.{row_combination-normal, span_submodule}
 use Rattle.sf_groebner.proofs.Submodules.{IsSubmodule}
@@ -29,20 +30,20 @@ use Rattle.sf_groebner.proofs.Subtractions.{add-negative_front}
 
 module _ (ring : Ring) (positive : IsRing ring) where
   abbrev plus : List (Term Place) → List (Term Place) → List (Term Place)
-  plus us vs = add (place_cmp ring.weights) ring.modulus us vs
+  plus us vs = row_sum ring us vs
 
   -- where two sums are equal, the differences of their parts are
-  add-negative_exchange : (u v x y : List (Term Place)) → IsCanonical (place_cmp ring.weights) ring.modulus u → IsCanonical (place_cmp ring.weights) ring.modulus v → IsCanonical (place_cmp ring.weights) ring.modulus x → IsCanonical (place_cmp ring.weights) ring.modulus y → plus u x ≡ plus v y
+  add-negative_exchange : (u v x y : List (Term Place)) → IsCanonicalRow ring u → IsCanonicalRow ring v → IsCanonicalRow ring x → IsCanonicalRow ring y → plus u x ≡ plus v y
       → plus y (negative ring.modulus x) ≡ plus u (negative ring.modulus v)
   add-negative_exchange u v x y hu hv hx hy e =
       ap (λ l. plus l (negative ring.modulus x))
-      (sym (add-negative_front (place_keys ring.weights) ring.modulus positive.modulus y v hy hv) ∙ ap (λ l. plus l (negative ring.modulus v)) (add_comm (place_cmp ring.weights) (place_cmp_linear ring.weights) ring.modulus positive.modulus y v ∙ sym e))
-      ∙ add_assoc (place_cmp ring.weights) (place_cmp_linear ring.weights) ring.modulus positive.modulus (plus u x) (negative ring.modulus v) (negative ring.modulus x)
-      ∙ ap (plus (plus u x)) (add_comm (place_cmp ring.weights) (place_cmp_linear ring.weights) ring.modulus positive.modulus (negative ring.modulus v) (negative ring.modulus x))
-      ∙ sym (add_assoc (place_cmp ring.weights) (place_cmp_linear ring.weights) ring.modulus positive.modulus (plus u x) (negative ring.modulus x) (negative ring.modulus v))
+      (sym (add-negative_front (place_keys ring.weights) ring.modulus positive.modulus y v hy hv) ∙ ap (λ l. plus l (negative ring.modulus v)) (row_sum-comm ring positive.modulus y v ∙ sym e))
+      ∙ row_sum-assoc ring positive.modulus (plus u x) (negative ring.modulus v) (negative ring.modulus x)
+      ∙ ap (plus (plus u x)) (row_sum-comm ring positive.modulus (negative ring.modulus v) (negative ring.modulus x))
+      ∙ sym (row_sum-assoc ring positive.modulus (plus u x) (negative ring.modulus x) (negative ring.modulus v))
       ∙ ap (λ l. plus l (negative ring.modulus v)) (add-negative_front (place_keys ring.weights) ring.modulus positive.modulus u x hu hx)
 
-pub division_exists : (m : Matrix) → IsOverField m.ring → IsMatrix m → (basis : List Vector) → IsReducedBasis m.ring.weights (InSpan m) basis → (v : Vector) → IsVector m.ring m.target v
+pub division_exists : (m : Matrix) → IsOverField m.ring → IsMatrix m → (basis : List Vector) → IsSpanBasis m basis → (v : Vector) → IsVector m.ring m.target v
     → (rest : Vector) × (quotients : Vector) × IsDivision m.ring m.target basis v rest quotients
 division_exists m prime matrix basis h v vector =
     let ring : Ring = m.ring in
@@ -60,11 +61,11 @@ division_exists m prime matrix basis h v vector =
         };
         quotients_degree = refl;
         reduced = e.free;
-        sum = ap (add (place_cmp ring.weights) ring.modulus e.rest) (row_combination-normal ring positive basis e.quotients) ∙ e.sum;
+        sum = ap (row_sum ring e.rest) (row_combination-normal ring positive basis e.quotients) ∙ e.sum;
       },
     )
 
-module _ (m : Matrix) (positive : IsRing m.ring) (matrix : IsMatrix m) (basis : List Vector) (h : IsReducedBasis m.ring.weights (InSpan m) basis) (v : Vector) (vector : IsVector m.ring m.target v) where
+module _ (m : Matrix) (positive : IsRing m.ring) (matrix : IsMatrix m) (basis : List Vector) (h : IsSpanBasis m basis) (v : Vector) (vector : IsVector m.ring m.target v) where
   submodule : IsSubmodule m.ring m.target (InSpan m)
   submodule = span_submodule m positive matrix
 
@@ -75,18 +76,18 @@ module _ (m : Matrix) (positive : IsRing m.ring) (matrix : IsMatrix m) (basis : 
   taken-inside : (rest quotients : Vector) → IsDivision m.ring m.target basis v rest quotients → InSpan m (taken quotients)
   taken-inside rest quotients e = submodule.combinations basis h.inside quotients.degree quotients.terms e.coefficients.homogeneous
 
-  taken-canonical : (quotients : Vector) → IsCanonical (place_cmp m.ring.weights) m.ring.modulus (taken quotients).terms
+  taken-canonical : (quotients : Vector) → IsCanonicalRow m.ring (taken quotients).terms
   taken-canonical quotients = IsCanonical-row_combination m.ring positive.modulus basis quotients.terms
 
   pub rest_unique : (rest quotients other others : Vector) → IsDivision m.ring m.target basis v rest quotients → IsDivision m.ring m.target basis v other others → rest ≡ other
   rest_unique rest quotients other others e f =
-      let inside : InSpan m (difference m.ring (taken others) (taken quotients)) =
+      let inside : InSpan m (vector_difference m.ring (taken others) (taken quotients)) =
       submodule.module_like.differences (taken others) (taken quotients) (taken-inside other others f) (taken-inside rest quotients e) (f.quotients_degree ∙ sym e.quotients_degree) in
       let exchanged = add-negative_exchange m.ring positive rest.terms other.terms (taken quotients).terms (taken others).terms e.rest_vector.canonical f.rest_vector.canonical
       (taken-canonical quotients) (taken-canonical others) (e.sum ∙ sym f.sum) in
       let terms : rest.terms ≡ other.terms =
       same_reduced m.ring positive basis rest other e.rest_vector.canonical f.rest_vector.canonical
-      (subst (HasDividedLead basis) exchanged (h.complete (difference m.ring (taken others) (taken quotients)) inside))
+      (subst (HasDividedLead basis) exchanged (h.complete (vector_difference m.ring (taken others) (taken quotients)) inside))
       e.reduced f.reduced in
       λ i. record { degree = (e.rest_degree ∙ sym f.rest_degree) i; terms = terms i }
 
@@ -94,23 +95,23 @@ module _ (m : Matrix) (positive : IsRing m.ring) (matrix : IsMatrix m) (basis : 
   rest_none rest quotients e = (
     λ none.
         let terms : (taken quotients).terms ≡ v.terms =
-        sym (add-nil_first (place_cmp m.ring.weights) (place_cmp_linear m.ring.weights) m.ring.modulus positive.modulus (taken quotients).terms (taken-canonical quotients))
-        ∙ ap (λ l. add (place_cmp m.ring.weights) m.ring.modulus l (taken quotients).terms) (sym none)
+        sym (row_sum-nil_first m.ring positive.modulus (taken quotients).terms (taken-canonical quotients))
+        ∙ ap (λ l. row_sum m.ring l (taken quotients).terms) (sym none)
         ∙ e.sum in
         let same : taken quotients ≡ v = λ i. record { degree = e.quotients_degree i; terms = terms i } in
         subst (InSpan m) same (taken-inside rest quotients e),
     λ inside.
-        let back : add (place_cmp m.ring.weights) m.ring.modulus v.terms (negative m.ring.modulus (taken quotients).terms) ≡ rest.terms =
-        ap (λ l. add (place_cmp m.ring.weights) m.ring.modulus l (negative m.ring.modulus (taken quotients).terms)) (sym e.sum)
+        let back : row_sum m.ring v.terms (negative m.ring.modulus (taken quotients).terms) ≡ rest.terms =
+        ap (λ l. row_sum m.ring l (negative m.ring.modulus (taken quotients).terms)) (sym e.sum)
         ∙ add-negative_front (place_keys m.ring.weights) m.ring.modulus positive.modulus rest.terms (taken quotients).terms e.rest_vector.canonical (taken-canonical quotients) in
         IsReducedBy-none basis rest.terms e.reduced
         (subst (HasDividedLead basis) back
-        (h.complete (difference m.ring v (taken quotients)) (submodule.module_like.differences v (taken quotients) inside (taken-inside rest quotients e) (sym e.quotients_degree)))),
+        (h.complete (vector_difference m.ring v (taken quotients)) (submodule.module_like.differences v (taken quotients) inside (taken-inside rest quotients e) (sym e.quotients_degree)))),
   )
 
 -- a vector differs by one of the span from one that is reduced by the relations
 pub reduced_vector_exists : (m : Matrix) → IsOverField m.ring → IsMatrix m → (v : Vector) → IsVector m.ring m.target v
-    → (w : Vector) × IsVector m.ring m.target w × (w.degree ≡ v.degree) × InSpan m (difference m.ring v w) × IsReducedByRelations m w
+    → (w : Vector) × IsVector m.ring m.target w × (w.degree ≡ v.degree) × InSpan m (vector_difference m.ring v w) × IsReducedByRelations m w
 reduced_vector_exists m prime matrix v vector =
     let positive : IsRing m.ring = field_ring prime in
     let b = span_basis m prime matrix in
@@ -120,10 +121,10 @@ reduced_vector_exists m prime matrix v vector =
     let quotients : Vector = d.1 in
     let e = d.2 in
     let taken_terms : List (Term Place) = row_combination m.ring basis quotients.terms in
-    let canonical : IsCanonical (place_cmp m.ring.weights) m.ring.modulus taken_terms = IsCanonical-row_combination m.ring positive.modulus basis quotients.terms in
-    let terms : taken_terms ≡ add (place_cmp m.ring.weights) m.ring.modulus v.terms (negative m.ring.modulus rest.terms) =
+    let canonical : IsCanonicalRow m.ring taken_terms = IsCanonical-row_combination m.ring positive.modulus basis quotients.terms in
+    let terms : taken_terms ≡ row_sum m.ring v.terms (negative m.ring.modulus rest.terms) =
     sym (add-negative_front (place_keys m.ring.weights) m.ring.modulus positive.modulus taken_terms rest.terms canonical e.rest_vector.canonical)
-    ∙ ap (λ ts. add (place_cmp m.ring.weights) m.ring.modulus ts (negative m.ring.modulus rest.terms)) (add_comm (place_cmp m.ring.weights) (place_cmp_linear m.ring.weights) m.ring.modulus positive.modulus taken_terms rest.terms ∙ e.sum) in (
+    ∙ ap (λ ts. row_sum m.ring ts (negative m.ring.modulus rest.terms)) (row_sum-comm m.ring positive.modulus taken_terms rest.terms ∙ e.sum) in (
       rest,
       e.rest_vector,
       e.rest_degree,

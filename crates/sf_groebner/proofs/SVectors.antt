@@ -8,7 +8,7 @@ use Rattle.sf_algebra.specs.Residues.{sum_mod, negative_mod}
 use Rattle.sf_algebra.specs.Rings.{Ring, IsRing}
 use Rattle.sf_algebra.specs.Sums.{total, coefficient_at}
 use Rattle.sf_algebra.specs.Terms.{Term, IsCanonical}
-use Rattle.sf_algebra.specs.Vectors.{Place, Vector, place_cmp}
+use Rattle.sf_algebra.specs.Vectors.{Place, Vector, place_cmp, IsCanonicalRow}
 use Rattle.sf_algebra.proofs.Coefficients.{coefficient_at-head}
 use Rattle.sf_algebra.proofs.Lists.{AllByRecursion-weaken}
 use Rattle.sf_algebra.proofs.Normal.{EachPlace, IsAboveEach}
@@ -17,16 +17,16 @@ use Rattle.sf_algebra.proofs.Residues.{sum_mod-second, sum_mod-zero}
 use Rattle.sf_algebra.proofs.Rows.{IsCanonical-row_combination}
 use Rattle.sf_algebra.proofs.SameTotals.{sum_mod-one_negative}
 use Rattle.sf_algebra.proofs.Totals.{total-cons, total-nil}
-use Rattle.sf_groebner.specs.Criterion.{HaveLeadsAtOnePosition, IsMonicRow, image, lcm_place, lead_at, pair_place, pair_terms, s_vector}
+use Rattle.sf_groebner.specs.Criterion.{HaveLeadsAtOnePosition, IsMonicRow, lead_multiple, lcm_place, lead_at, pair_place, s_coefficients, s_vector}
 use Rattle.sf_groebner.proofs.Buchberger.{IsInside}
 use Rattle.sf_groebner.proofs.Images.{IsAtMost, top_part}
 use Rattle.sf_groebner.proofs.MonicRows.{lead_bound, monic_leads}
-use Rattle.sf_groebner.proofs.Pairs.{image-pair_place, lcm_place-comm}
+use Rattle.sf_groebner.proofs.Pairs.{lead_multiple-pair_place, lcm_place-comm}
 use Rattle.sf_groebner.proofs.PlaceOrder.{Equal-not_Greater}
 use Rattle.sf_groebner.proofs.TopCoefficients.{coefficient_at-top, row_combination-at_most}
 
 -- a canonical list no place of which is greater than b, and which has no coefficient at b, is below b
-pub below_at : (ring : Ring) (b : Place) (v : List (Term Place)) → IsCanonical (place_cmp ring.weights) ring.modulus v → EachPlace (λ k. place_cmp ring.weights k b ≢ Greater) v → coefficient_at (place_cmp ring.weights) ring.modulus b v ≡ 0 → IsAboveEach (place_cmp ring.weights) b v
+pub below_at : (ring : Ring) (b : Place) (v : List (Term Place)) → IsCanonicalRow ring v → EachPlace (λ k. place_cmp ring.weights k b ≢ Greater) v → coefficient_at (place_cmp ring.weights) ring.modulus b v ≡ 0 → IsAboveEach (place_cmp ring.weights) b v
 below_at ring b [] canonical most none = tt
 below_at ring b (t ∷ ts) canonical most none =
     ordering_cases (place_cmp ring.weights t.at b)
@@ -41,25 +41,25 @@ below_at ring b (t ∷ ts) canonical most none =
 
 module _ (ring : Ring) (positive : IsRing ring) (rows : List Vector) (monic : AllByRecursion (IsMonicRow ring) rows) where
   -- both images of a pair are the least common multiple
-  image_cmp-first : (i j : ℕ) → place_cmp ring.weights (image (lead_at rows) (pair_place (lead_at rows) i j)) (lcm_place (lead_at rows) i j) ≡ Equal
-  image_cmp-first i j =
-      ap (λ k. place_cmp ring.weights k (lcm_place (lead_at rows) i j)) (image-pair_place (lead_at rows) i j) ∙ tied_itself (place_cmp_total ring.weights) (lcm_place (lead_at rows) i j)
+  multiple_cmp-first : (i j : ℕ) → place_cmp ring.weights (lead_multiple (lead_at rows) (pair_place (lead_at rows) i j)) (lcm_place (lead_at rows) i j) ≡ Equal
+  multiple_cmp-first i j =
+      ap (λ k. place_cmp ring.weights k (lcm_place (lead_at rows) i j)) (lead_multiple-pair_place (lead_at rows) i j) ∙ tied_itself (place_cmp_total ring.weights) (lcm_place (lead_at rows) i j)
 
-  image_cmp-second : (i j : ℕ) → HaveLeadsAtOnePosition rows i j → place_cmp ring.weights (image (lead_at rows) (pair_place (lead_at rows) j i)) (lcm_place (lead_at rows) i j) ≡ Equal
-  image_cmp-second i j positions =
-      ap (λ k. place_cmp ring.weights k (lcm_place (lead_at rows) i j)) (image-pair_place (lead_at rows) j i ∙ sym (lcm_place-comm (lead_at rows) i j positions))
+  multiple_cmp-second : (i j : ℕ) → HaveLeadsAtOnePosition rows i j → place_cmp ring.weights (lead_multiple (lead_at rows) (pair_place (lead_at rows) j i)) (lcm_place (lead_at rows) i j) ≡ Equal
+  multiple_cmp-second i j positions =
+      ap (λ k. place_cmp ring.weights k (lcm_place (lead_at rows) i j)) (lead_multiple-pair_place (lead_at rows) j i ∙ sym (lcm_place-comm (lead_at rows) i j positions))
       ∙ tied_itself (place_cmp_total ring.weights) (lcm_place (lead_at rows) i j)
 
   -- there the coefficients 1 and -1 cancel
-  total-pair_terms : (i j : ℕ) → HaveLeadsAtOnePosition rows i j → total ring.modulus (top_part ring.weights (lead_at rows) (lcm_place (lead_at rows) i j)) (pair_terms ring.modulus (lead_at rows) i j) ≡ 0
+  total-pair_terms : (i j : ℕ) → HaveLeadsAtOnePosition rows i j → total ring.modulus (top_part ring.weights (lead_at rows) (lcm_place (lead_at rows) i j)) (s_coefficients ring.modulus (lead_at rows) i j) ≡ 0
   total-pair_terms i j positions =
       let top = top_part ring.weights (lead_at rows) (lcm_place (lead_at rows) i j) in
       let second : Term Place = record { at = pair_place (lead_at rows) j i; coefficient = negative_mod ring.modulus 1 } in
       total-cons ring.modulus top (record { at = pair_place (lead_at rows) i j; coefficient = 1 }) (second ∷ [])
       ∙ (λ k.
-      sum_mod ring.modulus (if is_eq (image_cmp-first i j k) then 1 else 0)
+      sum_mod ring.modulus (if is_eq (multiple_cmp-first i j k) then 1 else 0)
       ((total-cons ring.modulus top second []
-      ∙ (λ l. sum_mod ring.modulus (if is_eq (image_cmp-second i j positions l) then negative_mod ring.modulus 1 else 0) (total-nil ring.modulus top l))
+      ∙ (λ l. sum_mod ring.modulus (if is_eq (multiple_cmp-second i j positions l) then negative_mod ring.modulus 1 else 0) (total-nil ring.modulus top l))
       ∙ sum_mod-zero ring.modulus (negative_mod ring.modulus 1)) k))
       ∙ sum_mod-second ring.modulus 1 (negative_mod ring.modulus 1)
       ∙ sum_mod-one_negative ring.modulus positive.modulus
@@ -67,9 +67,9 @@ module _ (ring : Ring) (positive : IsRing ring) (rows : List Vector) (monic : Al
   pub s_vector-below : (i j : ℕ) → i < length rows → j < length rows → HaveLeadsAtOnePosition rows i j → IsAboveEach (place_cmp ring.weights) (lcm_place (lead_at rows) i j) (s_vector ring rows i j)
   s_vector-below i j i_in j_in positions =
       let b = lcm_place (lead_at rows) i j in
-      let terms = pair_terms ring.modulus (lead_at rows) i j in
+      let terms = s_coefficients ring.modulus (lead_at rows) i j in
       let leads = monic_leads ring rows monic (IsInside rows) (λ k h. h) in
-      let most : EachPlace (IsAtMost ring.weights (IsInside rows) (lead_at rows) (lcm_place (lead_at rows) i j)) (pair_terms ring.modulus (lead_at rows) i j) = ((i_in, Equal-not_Greater _ (image_cmp-first i j)), ((j_in, Equal-not_Greater _ (image_cmp-second i j positions)), tt)) in
+      let most : EachPlace (IsAtMost ring.weights (IsInside rows) (lead_at rows) (lcm_place (lead_at rows) i j)) (s_coefficients ring.modulus (lead_at rows) i j) = ((i_in, Equal-not_Greater _ (multiple_cmp-first i j)), ((j_in, Equal-not_Greater _ (multiple_cmp-second i j positions)), tt)) in
       below_at ring b (s_vector ring rows i j) (IsCanonical-row_combination ring positive.modulus rows terms)
       (row_combination-at_most ring (lead_bound rows) (IsInside rows) rows (lead_at rows) leads b terms most)
       (coefficient_at-top ring (lead_bound rows) (IsInside rows) rows (lead_at rows) leads b terms most ∙ total-pair_terms i j positions)

@@ -8,6 +8,7 @@ use Rattle.sf_algebra.specs.Multiples.{place_product, term_product, multiple, co
 use Rattle.sf_algebra.specs.Rings.{Ring, IsRing}
 use Rattle.sf_algebra.specs.Sums.{normal, add}
 use Rattle.sf_algebra.specs.Terms.{Term}
+use Rattle.sf_algebra.specs.VectorOperations.{row_sum, row_multiple}
 use Rattle.sf_algebra.specs.Vectors.{Place, Vector, place_cmp}
 use Rattle.sf_algebra.proofs.Associativity.{combination_combination}
 use Rattle.sf_algebra.proofs.Keys.{place_keys}
@@ -18,7 +19,7 @@ use Rattle.sf_algebra.proofs.Rows.{position_rows, row_combination-append, row_co
 use Rattle.sf_algebra.proofs.SameTotals.{SameTotals, SameTotals-from_normal, SameTotals-normal, SameTotals-products, SameTotals-products_one, SameTotals-sym, normal-SameTotals}
 use Rattle.sf_algebra.proofs.Sums.{normal-append, normal-nil}
 use Rattle.sf_algebra.proofs.UnitRows.{unit_term}
-use Rattle.sf_groebner.specs.Criterion.{HaveLeadsAtOnePosition, IsForRows, IsMonicRow, IsPairSyzygy, image, lead_at, pair_place, pair_terms}
+use Rattle.sf_groebner.specs.Criterion.{HaveLeadsAtOnePosition, IsForRows, IsMonicRow, IsPairSyzygy, lead_multiple, lead_at, pair_place, s_coefficients}
 use Rattle.sf_groebner.proofs.Buchberger.{IsInside}
 use Rattle.sf_groebner.proofs.Images.{IsModule, IsSettled}
 use Rattle.sf_groebner.proofs.Kernels.{row_combination-SameTotals, row_combination-products, settled-syzygy}
@@ -35,12 +36,12 @@ pub record IsSpanned (ring : Ring) (zs : List Vector) (c : List (Term Place)) : 
   pub value : row_combination ring zs coefficients ≡ normal (place_cmp ring.weights) ring.modulus c
 
 -- the coefficients of a pair, by the sum of its syzygy and its steps
-pub SameTotals-from_sum : (ring : Ring) (z steps terms : List (Term Place)) → add (place_cmp ring.weights) ring.modulus z steps ≡ normal (place_cmp ring.weights) ring.modulus terms → SameTotals ring.modulus (z ++ steps) terms
+pub SameTotals-from_sum : (ring : Ring) (z steps terms : List (Term Place)) → row_sum ring z steps ≡ normal (place_cmp ring.weights) ring.modulus terms → SameTotals ring.modulus (z ++ steps) terms
 unfolding add
 SameTotals-from_sum ring z steps terms e = SameTotals-from_normal (place_cmp ring.weights) (place_cmp_linear ring.weights) ring.modulus (z ++ steps) terms e
 
 module _ (ring : Ring) (positive : IsRing ring) where
-  multiple-normal : (s : Term Monomial) (c : List (Term Place)) → multiple (place_cmp ring.weights) place_product ring.modulus s (normal (place_cmp ring.weights) ring.modulus c) ≡ normal (place_cmp ring.weights) ring.modulus (map (term_product place_product ring.modulus s) c)
+  multiple-normal : (s : Term Monomial) (c : List (Term Place)) → row_multiple ring s (normal (place_cmp ring.weights) ring.modulus c) ≡ normal (place_cmp ring.weights) ring.modulus (map (term_product place_product ring.modulus s) c)
   unfolding multiple
   multiple-normal s c = normal-SameTotals (place_cmp ring.weights) (place_cmp_linear ring.weights) ring.modulus positive.modulus (SameTotals-products ring.modulus place_product s (SameTotals-normal (place_cmp ring.weights) (place_cmp_linear ring.weights) ring.modulus c))
 
@@ -51,13 +52,13 @@ module _ (ring : Ring) (positive : IsRing ring) where
       coefficients = h.coefficients ++ k.coefficients;
       for_rows = AllByRecursion-append _ h.coefficients k.coefficients h.for_rows k.for_rows;
       value = row_combination-append ring positive.modulus zs h.coefficients k.coefficients
-          ∙ (λ i. add (place_cmp ring.weights) ring.modulus (h.value i) (k.value i))
+          ∙ (λ i. row_sum ring (h.value i) (k.value i))
           ∙ sym (normal-append (place_cmp ring.weights) (place_cmp_linear ring.weights) ring.modulus positive.modulus us vs);
     };
     has_products = λ s us h. record {
       coefficients = map (term_product place_product ring.modulus s) h.coefficients;
       for_rows = EachPlace-products (IsInside zs) (IsInside zs) ring.modulus s (λ k inside. inside) h.coefficients h.for_rows;
-      value = row_combination-products ring positive zs s h.coefficients ∙ ap (multiple (place_cmp ring.weights) place_product ring.modulus s) h.value ∙ multiple-normal s us;
+      value = row_combination-products ring positive zs s h.coefficients ∙ ap (row_multiple ring s) h.value ∙ multiple-normal s us;
     };
     has_same = λ us vs same h. record {
       coefficients = h.coefficients;
@@ -66,7 +67,7 @@ module _ (ring : Ring) (positive : IsRing ring) where
     };
   }
 
-  multiple-one_normal : (us : List (Term Place)) → multiple (place_cmp ring.weights) place_product ring.modulus (record { at = one; coefficient = 1 }) us ≡ normal (place_cmp ring.weights) ring.modulus us
+  multiple-one_normal : (us : List (Term Place)) → row_multiple ring (record { at = one; coefficient = 1 }) us ≡ normal (place_cmp ring.weights) ring.modulus us
   unfolding multiple
   multiple-one_normal us = normal-SameTotals (place_cmp ring.weights) (place_cmp_linear ring.weights) ring.modulus positive.modulus (SameTotals-products_one (place_keys ring.weights) ring.modulus us)
 
@@ -108,13 +109,13 @@ module _ (ring : Ring) (positive : IsRing ring) where
     module _ (monic : AllByRecursion (IsMonicRow ring) rows) where
       -- the theorem for coefficients at the places in In
       pub schreyer_at : (In : Place → Type 0) → ((k : Place) → In k → k.position < length rows)
-          → ((j k : Place) → In j → In k → image (lead_at rows) j ≡ image (lead_at rows) k → j.position < k.position
+          → ((j k : Place) → In j → In k → lead_multiple (lead_at rows) j ≡ lead_multiple (lead_at rows) k → j.position < k.position
           → IsSettled ring (λ u. In (place_product (cofactor (lead_at rows) j k) u)) (lead_at rows) (IsSpanned ring zs) (pair_place (lead_at rows) j.position k.position) (pair_place (lead_at rows) k.position j.position))
           → (c : List (Term Place)) → EachPlace In c → row_combination ring rows c ≡ [] → IsSpanned ring zs c
       schreyer_at In inside pairs c h none =
           ⊎_elim
           (λ (member : IsSpanned ring zs c). member)
-          (λ (found : (k : Place) × In k × Begins (image (lead_at rows) k) (row_combination ring rows c)). absurd (nothing_begins (image (lead_at rows) found.0) (row_combination ring rows c) none found.2))
+          (λ (found : (k : Place) × In k × Begins (lead_multiple (lead_at rows) k) (row_combination ring rows c)). absurd (nothing_begins (lead_multiple (lead_at rows) found.0) (row_combination ring rows c) none found.2))
           (standard ring (lead_bound rows) positive In rows (lead_at rows) (monic_leads ring rows monic In inside) (IsSpanned ring zs) (IsSpanned-module zs)
           (settled_pairs ring (IsSpanned ring zs) (IsSpanned-module zs) In (lead_at rows) positive pairs) IsSpanned-syzygy c h)
         where
@@ -130,4 +131,4 @@ module _ (ring : Ring) (positive : IsRing ring) where
           let positions = same_lead_position (lead_at rows) j k e in
           let found = pairs j.position k.position earlier k_in positions in
           settled-syzygy ring positive rows (IsInside rows) (lead_at rows) j.position k.position positions (IsSpanned ring zs) found.2.steps (row_at zs found.0) found.2.below
-          (IsSpanned-row zs found.0 found.1) (SameTotals-from_sum ring (row_at zs found.0) found.2.steps (pair_terms ring.modulus (lead_at rows) j.position k.position) found.2.sum))
+          (IsSpanned-row zs found.0 found.1) (SameTotals-from_sum ring (row_at zs found.0) found.2.steps (s_coefficients ring.modulus (lead_at rows) j.position k.position) found.2.sum))

@@ -16,7 +16,7 @@ use Rattle.sf_algebra.proofs.Places.{place_cmp-place_product, place_product-asso
 use Rattle.sf_algebra.proofs.Residues.{sum_mod-assoc, sum_mod-zero}
 use Rattle.sf_algebra.proofs.SameTotals.{SameTotals, SameTotals-append, SameTotals-equal, SameTotals-negative, SameTotals-products, SameTotals-refl, SameTotals-sym, SameTotals-trans}
 use Rattle.sf_algebra.proofs.Totals.{total-append, total-nil, total-reduced}
-use Rattle.sf_groebner.specs.Criterion.{image}
+use Rattle.sf_groebner.specs.Criterion.{lead_multiple}
 use Rattle.sf_groebner.proofs.Exchanges.{sum_mod-left_comm}
 use Rattle.sf_groebner.proofs.Images.{IsModule, IsSettled, IsUnder, at_place}
 use Rattle.sf_groebner.proofs.Multiplied.{EachPlace-constant, EachPlace-products, SameTotals-at_place}
@@ -29,7 +29,7 @@ module _ (ring : Ring) (S : List (Term Place) → Type 0) (is_module : IsModule 
   IsSettled-equal j k e = subst (IsSettled ring In lead S j) e (IsSettled-refl j)
 
   -- one pair after another
-  pub IsSettled-trans : (j k l : Place) → image lead k ≡ image lead l → IsSettled ring In lead S j k → IsSettled ring In lead S k l → IsSettled ring In lead S j l
+  pub IsSettled-trans : (j k l : Place) → lead_multiple lead k ≡ lead_multiple lead l → IsSettled ring In lead S j k → IsSettled ring In lead S k l → IsSettled ring In lead S j l
   IsSettled-trans j k l e first second = record {
     lower = second.lower ++ first.lower;
     rest = second.rest ++ first.rest;
@@ -54,7 +54,7 @@ module _ (ring : Ring) (S : List (Term Place) → Type 0) (is_module : IsModule 
           sorted u d s e t = simp (sum_mod-assoc, sum_mod-left_comm)
 
   -- either order
-  pub IsSettled-sym : IsRing ring → (j k : Place) → image lead j ≡ image lead k → IsSettled ring In lead S j k → IsSettled ring In lead S k j
+  pub IsSettled-sym : IsRing ring → (j k : Place) → lead_multiple lead j ≡ lead_multiple lead k → IsSettled ring In lead S j k → IsSettled ring In lead S k j
   IsSettled-sym positive j k e h = record {
     lower = minus h.lower;
     rest = minus h.rest;
@@ -91,7 +91,7 @@ IsSettled-product ring S is_module In lead a j k h =
           (λ u below. (
             below.0,
             (λ i. place_cmp ring.weights (place_product-assoc a u.monomial (lead u.position) i) (place_product-assoc a k.monomial (lead k.position) i))
-                ∙ place_cmp-place_product ring.weights a (image lead u) (image lead k)
+                ∙ place_cmp-place_product ring.weights a (lead_multiple lead u) (lead_multiple lead k)
                 ∙ below.1,
           ))
           h.lower h.under;

@@ -7,6 +7,7 @@ use Rattle.sf_algebra.specs.Multiples.{negative}
 use Rattle.sf_algebra.specs.Rings.{Ring, IsRing}
 use Rattle.sf_algebra.specs.Sums.{normal, add}
 use Rattle.sf_algebra.specs.Terms.{Term}
+use Rattle.sf_algebra.specs.VectorOperations.{row_sum}
 use Rattle.sf_algebra.specs.Vectors.{Place, Vector, place_cmp, IsHomogeneous}
 use Rattle.sf_algebra.proofs.Degrees.{degrees_of, IsHomogeneous-normal, IsHomogeneous-row_combination}
 use Rattle.sf_algebra.proofs.Keys.{place_keys}
@@ -15,6 +16,7 @@ use Rattle.sf_algebra.proofs.MatrixRows.{with_terms}
 use Rattle.sf_algebra.proofs.Negatives.{negative-negative, IsCanonical-negative}
 use Rattle.sf_algebra.proofs.Normal.{IsCanonical-normal}
 use Rattle.sf_algebra.proofs.Orders.{place_cmp_linear}
+use Rattle.sf_algebra.proofs.RowSums.{row_sum-nil_first}
 use Rattle.sf_algebra.proofs.Rows.{IsCanonical-row_combination, row_combination-matrix_product, row_combination-nil}
 use Rattle.sf_algebra.proofs.SameTotals.{SameTotals-normal, combination-SameTotals}
 use Rattle.sf_algebra.proofs.Stacks.{AllByRecursion-map, degrees-with_terms}
@@ -82,20 +84,20 @@ module _ (ring : Ring) (positive : IsRing ring) (target : List ℤ) (N : Vector 
   pub zero-inside : (d : ℤ) → N (record { degree = d; terms = [] })
   zero-inside d = subst (λ ts. N (record { degree = d; terms = ts })) (row_combination-nil ring positive.modulus []) (submodule.combinations [] tt d [] tt)
 
-  sum-inside : (d : ℤ) (us vs : List (Term Place)) → N (record { degree = d; terms = us }) → N (record { degree = d; terms = vs }) → N (record { degree = d; terms = add (place_cmp ring.weights) ring.modulus us vs })
+  sum-inside : (d : ℤ) (us vs : List (Term Place)) → N (record { degree = d; terms = us }) → N (record { degree = d; terms = vs }) → N (record { degree = d; terms = row_sum ring us vs })
   sum-inside d us vs h k =
       let canonical = (submodule.module_like.vectors (record { degree = d; terms = vs }) k).canonical in
       let opposite = submodule.module_like.differences (record { degree = d; terms = [] }) (record { degree = d; terms = vs }) (zero-inside d) k refl in
-      let back : negative ring.modulus (add (place_cmp ring.weights) ring.modulus [] (negative ring.modulus vs)) ≡ vs =
-      ap (negative ring.modulus) (add-nil_first (place_cmp ring.weights) (place_cmp_linear ring.weights) ring.modulus positive.modulus (negative ring.modulus vs) (IsCanonical-negative (place_cmp ring.weights) ring.modulus vs canonical))
+      let back : negative ring.modulus (row_sum ring [] (negative ring.modulus vs)) ≡ vs =
+      ap (negative ring.modulus) (row_sum-nil_first ring positive.modulus (negative ring.modulus vs) (IsCanonical-negative (place_cmp ring.weights) ring.modulus vs canonical))
       ∙ negative-negative (place_cmp ring.weights) ring.modulus vs canonical.residues in
-      subst (λ ts. N (record { degree = d; terms = add (place_cmp ring.weights) ring.modulus us ts })) back
-      (submodule.module_like.differences (record { degree = d; terms = us }) (record { degree = d; terms = add (place_cmp ring.weights) ring.modulus [] (negative ring.modulus vs) }) h opposite refl)
+      subst (λ ts. N (record { degree = d; terms = row_sum ring us ts })) back
+      (submodule.module_like.differences (record { degree = d; terms = us }) (record { degree = d; terms = row_sum ring [] (negative ring.modulus vs) }) h opposite refl)
 
   pub submodule_closed : HasSumsAndMultiples ring N
   submodule_closed = record { sums = sum-inside; multiples = λ v c h k. submodule.combinations (v ∷ []) (h, tt) c.degree c.terms k.homogeneous }
 
--- a span, with the modulus and the degrees as they are known
+-- a span, with the ring and the degrees as they are known
 pub span_submodule_of : (ring : Ring) → IsRing ring → (target : List ℤ) (m : Matrix) → m.ring ≡ ring → m.target ≡ target → IsMatrix m → IsSubmodule ring target (InSpan m)
-span_submodule_of ring positive target m modulus same matrix =
-    subst (λ ds. IsSubmodule ring ds (InSpan m)) same (subst (λ q. IsSubmodule q m.target (InSpan m)) modulus (span_submodule m (subst (λ q. IsRing q) (sym modulus) positive) matrix))
+span_submodule_of ring positive target m same_ring same matrix =
+    subst (λ ds. IsSubmodule ring ds (InSpan m)) same (subst (λ q. IsSubmodule q m.target (InSpan m)) same_ring (span_submodule m (subst (λ q. IsRing q) (sym same_ring) positive) matrix))

@@ -6,7 +6,8 @@ use Rattle.sf_algebra.specs.Matrices.{Matrix, IsMatrix, row_degrees}
 use Rattle.sf_algebra.specs.MatrixOperations.{row_combination}
 use Rattle.sf_algebra.specs.Rings.{Ring, IsRing}
 use Rattle.sf_algebra.specs.Terms.{IsCanonical}
-use Rattle.sf_algebra.specs.Vectors.{Vector, place_cmp, IsVector}
+use Rattle.sf_algebra.specs.VectorOperations.{vector_difference}
+use Rattle.sf_algebra.specs.Vectors.{Vector, place_cmp, IsVector, IsCanonicalRow}
 use Rattle.sf_algebra.proofs.Coordinates.{AreCoordinates, coordinates-differ}
 use Rattle.sf_algebra.proofs.DegreeParts.{IsHomogeneous-degree_part}
 use Rattle.sf_algebra.proofs.Filters.{IsCanonical-filter}
@@ -15,7 +16,6 @@ use Rattle.sf_algebra.proofs.Subgroups.{Whole-sub, ImageOf-sub, PreimageOf-sub, 
 use Rattle.sf_algebra.proofs.VectorGroups.{SpanOf, vectors_of_degree, coefficients_of_degree, values_of_degree, combined_matrix, combined_matrix-map}
 use Rattle.sf_algebra.proofs.VectorProps.{same_canonical, same_vector}
 use Rattle.sf_groebner.specs.Presentations.{IsRelation}
-use Rattle.sf_groebner.proofs.Modules.{difference}
 use Rattle.sf_groebner.specs.Spans.{InSpan, IsSyzygy}
 
 -- the vectors of degree d that a module N has
@@ -66,7 +66,7 @@ module _ (m : Matrix) (positive : IsRing m.ring) (d : ℤ) where
       pub coordinates-relation : (v : (values_of_degree m positive.modulus d).V) (c e : (coefficients_of_degree m positive.modulus d).V)
           → AreCoordinates (values_of_degree m positive.modulus d) (combined_matrix m positive.modulus d is_matrix) (of_values B) v c
           → AreCoordinates (values_of_degree m positive.modulus d) (combined_matrix m positive.modulus d is_matrix) (of_values B) v e
-          → IsRelation m B (difference m.ring (record { degree = d; terms = c.0 }) (record { degree = d; terms = e.0 }))
+          → IsRelation m B (vector_difference m.ring (record { degree = d; terms = c.0 }) (record { degree = d; terms = e.0 }))
       coordinates-relation v c e h k =
           let C = coefficients_of_degree m positive.modulus d in
           record {
@@ -76,7 +76,7 @@ module _ (m : Matrix) (positive : IsRing m.ring) (d : ℤ) where
 
 module _ (m : Matrix) (positive : IsRing m.ring) where
   -- a vector in the span is in it with coefficients of no degree in particular
-  pub InSpan-SpanOf : (v : Vector) (canonical : IsCanonical (place_cmp m.ring.weights) m.ring.modulus v.terms) → InSpan m v → SpanOf m.ring positive.modulus m.rows (v.terms, canonical)
+  pub InSpan-SpanOf : (v : Vector) (canonical : IsCanonicalRow m.ring v.terms) → InSpan m v → SpanOf m.ring positive.modulus m.rows (v.terms, canonical)
   InSpan-SpanOf v canonical h = (((h.0).terms, (h.1).canonical), tt, same_canonical (place_cmp m.ring.weights) m.ring.modulus _ _ (ap (λ (w : Vector). w.terms) h.2))
 
   -- with any coefficients it is in the span: those of its degree do

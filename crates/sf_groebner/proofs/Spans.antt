@@ -6,7 +6,8 @@ use Rattle.sf_algebra.specs.Multiples.{negative}
 use Rattle.sf_algebra.specs.Rings.{Ring, IsRing}
 use Rattle.sf_algebra.specs.Sums.{add}
 use Rattle.sf_algebra.specs.Terms.{Term, IsCanonical}
-use Rattle.sf_algebra.specs.Vectors.{Place, Vector, place_cmp, IsVector}
+use Rattle.sf_algebra.specs.VectorOperations.{row_sum, vector_difference}
+use Rattle.sf_algebra.specs.Vectors.{Place, Vector, place_cmp, IsVector, IsCanonicalRow}
 use Rattle.sf_algebra.proofs.HomogeneousVectors.{IsVector-add, IsVector-negative, IsVector-row_combination}
 use Rattle.sf_algebra.proofs.Keys.{place_keys}
 use Rattle.sf_algebra.proofs.Negatives.{add-negative}
@@ -14,32 +15,32 @@ use Rattle.sf_algebra.proofs.PartTerms.{IsCanonical-part_terms}
 use Rattle.sf_algebra.proofs.Rows.{row_combination-add, row_combination-negative}
 use Rattle.sf_groebner.specs.Presentations.{IsRelation}
 use Rattle.sf_groebner.specs.Spans.{combined, InSpan, IsSyzygy, graph_degrees, coefficient_terms, IsGraphVector}
-use Rattle.sf_groebner.proofs.Modules.{difference, IsModuleLike}
+use Rattle.sf_groebner.proofs.Modules.{IsModuleLike}
 use Rattle.sf_groebner.proofs.PartSums.{part_terms-difference}
 
-pub IsVector-difference : (ring : Ring) → IsRing ring → (degrees : List ℤ) (u v : Vector) → IsVector ring degrees u → IsVector ring degrees v → u.degree ≡ v.degree → IsVector ring degrees (difference ring u v)
+pub IsVector-difference : (ring : Ring) → IsRing ring → (degrees : List ℤ) (u v : Vector) → IsVector ring degrees u → IsVector ring degrees v → u.degree ≡ v.degree → IsVector ring degrees (vector_difference ring u v)
 IsVector-difference ring positive degrees u v h k e =
     IsVector-add ring degrees positive.modulus u.degree u.terms (negative ring.modulus v.terms) h
     (IsVector-negative ring degrees u.degree v.terms (subst (λ d. IsVector ring degrees (record { degree = d; terms = v.terms })) (sym e) k))
 
 module _ (m : Matrix) (positive : IsRing m.ring) where
-  row_combination-difference : (c d : List (Term Place)) → IsCanonical (place_cmp m.ring.weights) m.ring.modulus d
-      → row_combination m.ring m.rows (add (place_cmp m.ring.weights) m.ring.modulus c (negative m.ring.modulus d))
-      ≡ add (place_cmp m.ring.weights) m.ring.modulus (row_combination m.ring m.rows c) (negative m.ring.modulus (row_combination m.ring m.rows d))
+  row_combination-difference : (c d : List (Term Place)) → IsCanonicalRow m.ring d
+      → row_combination m.ring m.rows (row_sum m.ring c (negative m.ring.modulus d))
+      ≡ row_sum m.ring (row_combination m.ring m.rows c) (negative m.ring.modulus (row_combination m.ring m.rows d))
   row_combination-difference c d h =
       row_combination-add m.ring positive.modulus m.rows c (negative m.ring.modulus d)
-      ∙ ap (add (place_cmp m.ring.weights) m.ring.modulus (row_combination m.ring m.rows c)) (row_combination-negative m.ring positive.modulus m.rows d h)
+      ∙ ap (row_sum m.ring (row_combination m.ring m.rows c)) (row_combination-negative m.ring positive.modulus m.rows d h)
 
-  pub combined-difference : (c d : Vector) → IsCanonical (place_cmp m.ring.weights) m.ring.modulus d.terms → combined m (difference m.ring c d) ≡ difference m.ring (combined m c) (combined m d)
+  pub combined-difference : (c d : Vector) → IsCanonicalRow m.ring d.terms → combined m (vector_difference m.ring c d) ≡ vector_difference m.ring (combined m c) (combined m d)
   combined-difference c d h = λ i. record { degree = c.degree; terms = row_combination-difference c.terms d.terms h i }
 
   pub span_module : IsMatrix m → IsModuleLike m.ring m.target (InSpan m)
   span_module matrix = record {
     vectors = λ v h. subst (IsVector m.ring m.target) h.2 (IsVector-row_combination m positive.modulus matrix h.0 h.1);
     differences = λ u v h k e. (
-      difference m.ring h.0 k.0,
+      vector_difference m.ring h.0 k.0,
       IsVector-difference m.ring positive (row_degrees m) h.0 k.0 h.1 k.1 (ap (λ x. x.degree) h.2 ∙ e ∙ sym (ap (λ x. x.degree) k.2)),
-      combined-difference h.0 k.0 k.1.canonical ∙ (λ i. difference m.ring (h.2 i) (k.2 i)),
+      combined-difference h.0 k.0 k.1.canonical ∙ (λ i. vector_difference m.ring (h.2 i) (k.2 i)),
     );
   }
 
@@ -59,7 +60,7 @@ module _ (m : Matrix) (positive : IsRing m.ring) where
     differences = λ c d k l e. record {
       coefficients = IsVector-difference m.ring positive (row_degrees m) c d k.coefficients l.coefficients e;
       zero = row_combination-difference c.terms d.terms l.coefficients.canonical
-          ∙ (λ i. add (place_cmp m.ring.weights) m.ring.modulus (k.zero i) (negative m.ring.modulus (l.zero i)))
+          ∙ (λ i. row_sum m.ring (k.zero i) (negative m.ring.modulus (l.zero i)))
           ∙ add-negative (place_keys m.ring.weights) m.ring.modulus positive.modulus [] (record { descending = tt; residues = tt });
     };
   }
@@ -70,7 +71,7 @@ module _ (m : Matrix) (positive : IsRing m.ring) where
     differences = λ u v k l e. record {
       vector = IsVector-difference m.ring positive (graph_degrees m) u v k.vector l.vector e;
       value = part_terms-difference m.ring 0 (length m.target) positive u.terms v.terms
-          ∙ (λ i. add (place_cmp m.ring.weights) m.ring.modulus (k.value i) (negative m.ring.modulus (l.value i)))
+          ∙ (λ i. row_sum m.ring (k.value i) (negative m.ring.modulus (l.value i)))
           ∙ sym (row_combination-difference (coefficient_terms m u.terms) (coefficient_terms m v.terms)
           (IsCanonical-part_terms m.ring (length m.target) (length m.target + length m.rows) v.terms l.vector.canonical))
           ∙ ap (row_combination m.ring m.rows) (sym (part_terms-difference m.ring (length m.target) (length m.target + length m.rows) positive u.terms v.terms));

@@ -9,15 +9,17 @@ use Rattle.sf_algebra.specs.MatrixOperations.{row_at, row_combination}
 use Rattle.sf_algebra.specs.Rings.{Ring, Weights, IsPositive, IsRing}
 use Rattle.sf_algebra.specs.Sums.{add, total, coefficient_at}
 use Rattle.sf_algebra.specs.Terms.{Term}
+use Rattle.sf_algebra.specs.VectorOperations.{row_sum}
 use Rattle.sf_algebra.specs.Vectors.{Place, Vector, place_cmp}
 use Rattle.sf_algebra.proofs.Keys.{place_keys}
 use Rattle.sf_algebra.proofs.Lists.{AllByRecursion-weaken}
 use Rattle.sf_algebra.proofs.Normal.{EachPlace}
 use Rattle.sf_algebra.proofs.Orders.{ordering_cases, place_cmp_total, place_cmp_linear}
+use Rattle.sf_algebra.proofs.RowSums.{row_sum-nil}
 use Rattle.sf_algebra.proofs.Rows.{IsCanonical-row_combination, row_combination-append}
 use Rattle.sf_algebra.proofs.SameTotals.{SameTotals, SameTotals-append, SameTotals-refl, SameTotals-sym, SameTotals-trans, SameTotals-zero, combination-SameTotals}
 use Rattle.sf_algebra.proofs.Sums.{add-nil}
-use Rattle.sf_groebner.specs.Criterion.{image}
+use Rattle.sf_groebner.specs.Criterion.{lead_multiple}
 use Rattle.sf_groebner.proofs.Accessible.{IsBelow, place_acc}
 use Rattle.sf_groebner.proofs.Gather.{IsGathered, gather}
 use Rattle.sf_groebner.proofs.Images.{HasLeads, IsAllSettled, IsAtMost, IsModule, top_part}
@@ -33,24 +35,24 @@ place_induction weights positive n P step k = down k (place_acc weights positive
 
 -- a place of the list whose image no other's exceeds, unless the list is empty
 pub greatest : (weights : Weights) (P In : Place → Type 0) (lead : ℕ → Place) (c : List (Term Place)) → EachPlace (λ k. In k × P k) c
-    → (c ≡ []) ⊎ ((r : Place) × In r × P r × EachPlace (IsAtMost weights In lead (image lead r)) c)
+    → (c ≡ []) ⊎ ((r : Place) × In r × P r × EachPlace (IsAtMost weights In lead (lead_multiple lead r)) c)
 greatest weights P In lead [] h = inl refl
 greatest weights P In lead (t ∷ ts) h =
     ⊎_elim
-    (λ (none : ts ≡ []). inr (t.at, h.0.0, h.0.1, ((h.0.0, not_greater_itself weights (image lead t.at)), subst (EachPlace (IsAtMost weights In lead (image lead t.at))) (sym none) tt)))
-    (λ (found : (r : Place) × In r × P r × EachPlace (IsAtMost weights In lead (image lead r)) ts).
-    ordering_cases (place_cmp weights (image lead t.at) (image lead found.0))
+    (λ (none : ts ≡ []). inr (t.at, h.0.0, h.0.1, ((h.0.0, not_greater_itself weights (lead_multiple lead t.at)), subst (EachPlace (IsAtMost weights In lead (lead_multiple lead t.at))) (sym none) tt)))
+    (λ (found : (r : Place) × In r × P r × EachPlace (IsAtMost weights In lead (lead_multiple lead r)) ts).
+    ordering_cases (place_cmp weights (lead_multiple lead t.at) (lead_multiple lead found.0))
     (λ less. inr (found.0, found.1, found.2, ((h.0.0, Less-not_Greater _ less), found.3)))
     (λ equal. inr (found.0, found.1, found.2, ((h.0.0, λ greater. cc), found.3)))
     (λ greater.
-    let less : place_cmp weights (image lead found.0) (image lead t.at) ≡ Less = (place_cmp_total weights).antisymm (image lead found.0) (image lead t.at) ∙ ap ordering_reverse greater in
+    let less : place_cmp weights (lead_multiple lead found.0) (lead_multiple lead t.at) ≡ Less = (place_cmp_total weights).antisymm (lead_multiple lead found.0) (lead_multiple lead t.at) ∙ ap ordering_reverse greater in
     inr (
       t.at,
       h.0.0,
       h.0.1,
       (
-        (h.0.0, not_greater_itself weights (image lead t.at)),
-        AllByRecursion-weaken _ _ (λ u k. (k.0, Less-not_Greater _ (not_greater_less weights (image lead u.at) (image lead found.0) (image lead t.at) k.1 less))) ts found.3,
+        (h.0.0, not_greater_itself weights (lead_multiple lead t.at)),
+        AllByRecursion-weaken _ _ (λ u k. (k.0, Less-not_Greater _ (not_greater_less weights (lead_multiple lead u.at) (lead_multiple lead found.0) (lead_multiple lead t.at) k.1 less))) ts found.3,
       ),
     )))
     (greatest weights P In lead ts h.1)
@@ -58,7 +60,7 @@ greatest weights P In lead (t ∷ ts) h =
 module _ (ring : Ring) (n : ℕ) (positive : IsRing ring) (In : Place → Type 0) (rows : List Vector) (lead : ℕ → Place) (leads : HasLeads ring.weights n In rows lead) (S : List (Term Place) → Type 0) (is_module : IsModule ring.modulus S) where
   -- a combination is in S, or begins at the image of a place
   abbrev pub IsStandard : List (Term Place) → Type 0
-  IsStandard c = S c ⊎ ((k : Place) × In k × Begins (image lead k) (row_combination ring rows c))
+  IsStandard c = S c ⊎ ((k : Place) × In k × Begins (lead_multiple lead k) (row_combination ring rows c))
 
   module _ (settled : IsAllSettled ring In lead S) (is_zero : (s : List (Term Place)) → S s → row_combination ring rows s ≡ []) where
     -- a member of S more changes nothing
@@ -66,20 +68,20 @@ module _ (ring : Ring) (n : ℕ) (positive : IsRing ring) (In : Place → Type 0
     standard-append c d s same inside h =
         ⊎_elim
         (λ (member : S d). inl (is_module.has_same (d ++ s) c (SameTotals-sym ring.modulus same) (is_module.has_sums d s member inside)))
-        (λ (found : (k : Place) × In k × Begins (image lead k) (row_combination ring rows d)).
-        inr (found.0, found.1, subst (Begins (image lead found.0)) (sym value) found.2))
+        (λ (found : (k : Place) × In k × Begins (lead_multiple lead k) (row_combination ring rows d)).
+        inr (found.0, found.1, subst (Begins (lead_multiple lead found.0)) (sym value) found.2))
         h
       where
         value : row_combination ring rows c ≡ row_combination ring rows d
         value =
             combination-SameTotals (place_keys ring.weights) ring.modulus positive.modulus (λ k. k.monomial) (λ k. row_at rows k.position) same
             ∙ row_combination-append ring positive.modulus rows d s
-            ∙ ap (add (place_cmp ring.weights) ring.modulus (row_combination ring rows d)) (is_zero s inside)
-            ∙ add-nil (place_cmp ring.weights) (place_cmp_linear ring.weights) ring.modulus positive.modulus (row_combination ring rows d) (IsCanonical-row_combination ring positive.modulus rows d)
+            ∙ ap (row_sum ring (row_combination ring rows d)) (is_zero s inside)
+            ∙ row_sum-nil ring positive.modulus (row_combination ring rows d) (IsCanonical-row_combination ring positive.modulus rows d)
 
     -- what holds of all combinations whose images are at most b
     abbrev IsStandardUpTo : Place → Type 0
-    IsStandardUpTo b = (r : Place) → In r → image lead r ≡ b → (c : List (Term Place)) → EachPlace (IsAtMost ring.weights In lead b) c → IsStandard c
+    IsStandardUpTo b = (r : Place) → In r → lead_multiple lead r ≡ b → (c : List (Term Place)) → EachPlace (IsAtMost ring.weights In lead b) c → IsStandard c
 
     standard_step : (b : Place) → ((j : Place) → IsBelow ring.weights n j b → IsStandardUpTo j) → IsStandardUpTo b
     standard_step b before r inside e c most =
@@ -92,9 +94,9 @@ module _ (ring : Ring) (n : ℕ) (positive : IsRing ring) (In : Place → Type 0
             gathered.inside
             (⊎_elim
             (λ (none : gathered.lower ≡ []). inl (subst S (sym none) is_module.has_none))
-            (λ (found : (q : Place) × In q × (place_cmp ring.weights (image lead q) b ≡ Less) × EachPlace (IsAtMost ring.weights In lead (image lead q)) gathered.lower).
-            before (image lead found.0) (found.2, leads.column found.0 found.1) found.0 found.1 refl gathered.lower found.3)
-            (greatest ring.weights (λ k. place_cmp ring.weights (image lead k) b ≡ Less) In lead gathered.lower gathered.under))
+            (λ (found : (q : Place) × In q × (place_cmp ring.weights (lead_multiple lead q) b ≡ Less) × EachPlace (IsAtMost ring.weights In lead (lead_multiple lead q)) gathered.lower).
+            before (lead_multiple lead found.0) (found.2, leads.column found.0 found.1) found.0 found.1 refl gathered.lower found.3)
+            (greatest ring.weights (λ k. place_cmp ring.weights (lead_multiple lead k) b ≡ Less) In lead gathered.lower gathered.under))
         by_coefficient (suc x) top gathered =
             inr (
               r,
@@ -107,6 +109,6 @@ module _ (ring : Ring) (n : ℕ) (positive : IsRing ring) (In : Place → Type 0
     standard c h =
         ⊎_elim
         (λ (none : c ≡ []). inl (subst S (sym none) is_module.has_none))
-        (λ (found : (r : Place) × In r × Unit {0} × EachPlace (IsAtMost ring.weights In lead (image lead r)) c).
-        place_induction ring.weights positive.weights n IsStandardUpTo standard_step (image lead found.0) found.0 found.1 refl c found.3)
+        (λ (found : (r : Place) × In r × Unit {0} × EachPlace (IsAtMost ring.weights In lead (lead_multiple lead r)) c).
+        place_induction ring.weights positive.weights n IsStandardUpTo standard_step (lead_multiple lead found.0) found.0 found.1 refl c found.3)
         (greatest ring.weights (λ _. Unit {0}) In lead c (AllByRecursion-weaken _ _ (λ t k. (k, tt)) c h))

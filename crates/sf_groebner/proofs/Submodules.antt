@@ -9,6 +9,7 @@ use Rattle.sf_algebra.specs.Primes.{IsPrime}
 use Rattle.sf_algebra.specs.Rings.{Ring, IsRing, IsOverField}
 use Rattle.sf_algebra.specs.Sums.{add}
 use Rattle.sf_algebra.specs.Terms.{Term, IsNonzeroResidue}
+use Rattle.sf_algebra.specs.VectorOperations.{row_sum}
 use Rattle.sf_algebra.specs.Vectors.{Place, Vector, place_cmp, IsHomogeneous}
 use Rattle.sf_algebra.proofs.Degrees.{degrees_of}
 use Rattle.sf_algebra.proofs.Inverses.{inverse_exists, inverse_nonzero}
@@ -41,8 +42,8 @@ module _ (ring : Ring) (prime : IsOverField ring) (target : List ℤ) (N : Vecto
   rest-inside rows inside v h e =
       let multiples : Vector = record { degree = v.degree; terms = row_combination ring rows e.quotients } in
       let positive : IsRing ring = field_ring prime in
-      let back : add (place_cmp ring.weights) ring.modulus v.terms (negative ring.modulus multiples.terms) ≡ e.rest =
-      ap (λ ts. add (place_cmp ring.weights) ring.modulus ts (negative ring.modulus multiples.terms)) (sym e.sum)
+      let back : row_sum ring v.terms (negative ring.modulus multiples.terms) ≡ e.rest =
+      ap (λ ts. row_sum ring ts (negative ring.modulus multiples.terms)) (sym e.sum)
       ∙ add-negative_front (place_keys ring.weights) ring.modulus positive.modulus e.rest multiples.terms e.vector.canonical (IsCanonical-row_combination ring positive.modulus rows e.quotients) in
       subst N (λ i. record { degree = v.degree; terms = back i })
       (submodule.module_like.differences v multiples h (submodule.combinations rows inside v.degree e.quotients e.homogeneous) refl)

@@ -3,11 +3,12 @@ use Rattle.std.proofs.Common.{◌≡◌, inl, inr, ℕ, ◌+◌, ◌<◌, ◌≤
 use Rattle.std.proofs.lemmas.List.{length-append, length-map, map-append}
 use Rattle.std.specs.List.{AllByRecursion}
 use Rattle.sf_algebra.specs.Matrices.{Matrix, IsMatrix}
-use Rattle.sf_algebra.specs.MatrixOperations.{part_terms, row_combination}
+use Rattle.sf_algebra.specs.MatrixOperations.{part_terms, row_combination, vector_part}
 use Rattle.sf_algebra.specs.Primes.{IsPrime}
 use Rattle.sf_algebra.specs.Rings.{Ring, IsRing, IsOverField}
 use Rattle.sf_algebra.specs.Sums.{add}
 use Rattle.sf_algebra.specs.Terms.{Term}
+use Rattle.sf_algebra.specs.VectorOperations.{row_sum}
 use Rattle.sf_algebra.specs.Vectors.{Place, Vector, place_cmp, IsVector}
 use Rattle.sf_algebra.proofs.Degrees.{degrees_of}
 use Rattle.sf_algebra.proofs.Lists.{AllByRecursion-append, AllByRecursion-weaken}
@@ -15,9 +16,9 @@ use Rattle.sf_algebra.proofs.MatrixRows.{IsWithin}
 use Rattle.sf_algebra.proofs.Orders.{place_cmp_linear}
 use Rattle.sf_algebra.proofs.PartTerms.{IsVector-part_terms}
 use Rattle.sf_algebra.proofs.Ranges.{slice_range-first, slice_range-second}
+use Rattle.sf_algebra.proofs.RowSums.{row_sum-comm}
 use Rattle.sf_algebra.proofs.StackedRows.{row_combination-stacked}
 use Rattle.sf_algebra.proofs.Sums.{add_comm}
-use Rattle.sf_groebner.specs.Cuts.{part_of}
 use Rattle.sf_groebner.specs.MinimalGenerators.{IsInSum, matrix_of}
 use Rattle.sf_groebner.specs.Presentations.{IsZero}
 use Rattle.sf_groebner.specs.Spans.{InSpan}
@@ -25,7 +26,7 @@ use Rattle.sf_algebra.proofs.Weights.{field_ring}
 use Rattle.sf_groebner.proofs.Decisions.{IsDecided, decide_from}
 use Rattle.sf_groebner.proofs.KeptGenerators.{IsSumAt, IsSumAt-from, IsSumAt-to}
 use Rattle.sf_groebner.proofs.MatrixBases.{span_basis}
-use Rattle.sf_groebner.proofs.PairedVectors.{IsVector-pair, pair_terms, pair_terms-parts}
+use Rattle.sf_groebner.proofs.PairedVectors.{IsVector-pair, paired_terms, paired_terms-parts}
 use Rattle.sf_groebner.proofs.ReducedCoordinates.{InSpan-sum, IsInSum-span}
 use Rattle.sf_groebner.proofs.Rests.{division_exists, rest_none}
 
@@ -58,17 +59,17 @@ module _ (ring : Ring) (positive : IsRing ring) (target : List ℤ) (earlier row
       let value : row_combination ring rows c.terms ≡ s.first = ap (λ (w : Vector). w.terms) s.inside.2 in
       let last : IsVector ring (degrees_of rows) (record { degree = v.degree; terms = c.terms }) =
       subst (λ d. IsVector ring (degrees_of rows) (record { degree = d; terms = c.terms })) (ap (λ (w : Vector). w.degree) s.inside.2) s.inside.1 in
-      let pair : IsVector ring (degrees_of earlier ++ degrees_of rows) (record { degree = v.degree; terms = pair_terms n s.coefficients c.terms }) =
-      subst (λ k. IsVector ring (degrees_of earlier ++ degrees_of rows) (record { degree = v.degree; terms = pair_terms k s.coefficients c.terms })) (length-degrees_of earlier)
+      let pair : IsVector ring (degrees_of earlier ++ degrees_of rows) (record { degree = v.degree; terms = paired_terms n s.coefficients c.terms }) =
+      subst (λ k. IsVector ring (degrees_of earlier ++ degrees_of rows) (record { degree = v.degree; terms = paired_terms k s.coefficients c.terms })) (length-degrees_of earlier)
       (IsVector-pair (degrees_of earlier) (degrees_of rows) v.degree ring s.coefficients c.terms s.vector last) in
       let within : IsWithin n s.coefficients = subst (λ k. IsWithin k s.coefficients) (length-degrees_of earlier) (AllByRecursion-weaken _ _ (λ t k. k.0) s.coefficients s.vector.homogeneous) in
-      let terms : row_combination ring (earlier ++ rows) (pair_terms n s.coefficients c.terms) ≡ v.terms =
+      let terms : row_combination ring (earlier ++ rows) (paired_terms n s.coefficients c.terms) ≡ v.terms =
       row_combination-stacked ring positive.modulus earlier rows s.coefficients c.terms within
-      ∙ add_comm (place_cmp ring.weights) (place_cmp_linear ring.weights) ring.modulus positive.modulus (row_combination ring earlier s.coefficients) (row_combination ring rows c.terms)
-      ∙ ap (λ ts. add (place_cmp ring.weights) ring.modulus ts (row_combination ring earlier s.coefficients)) value
+      ∙ row_sum-comm ring positive.modulus (row_combination ring earlier s.coefficients) (row_combination ring rows c.terms)
+      ∙ ap (λ ts. row_sum ring ts (row_combination ring earlier s.coefficients)) value
       ∙ s.sum in (
-        record { degree = v.degree; terms = pair_terms n s.coefficients c.terms },
-        subst (λ ds. IsVector ring ds (record { degree = v.degree; terms = pair_terms n s.coefficients c.terms })) (sym whole_degrees) pair,
+        record { degree = v.degree; terms = paired_terms n s.coefficients c.terms },
+        subst (λ ds. IsVector ring ds (record { degree = v.degree; terms = paired_terms n s.coefficients c.terms })) (sym whole_degrees) pair,
         λ i. record { degree = v.degree; terms = terms i },
       )
 
@@ -79,12 +80,12 @@ module _ (ring : Ring) (positive : IsRing ring) (target : List ℤ) (earlier row
       let end = n + length rows in
       let c : Vector = h.0 in
       let blocks : IsVector ring (degrees_of earlier ++ degrees_of rows) c = subst (λ ds. IsVector ring ds c) whole_degrees h.1 in
-      let first : IsVector ring (degrees_of earlier) (part_of 0 n c) =
-      subst (λ ds. IsVector ring ds (part_of 0 n c)) (slice_range-first (degrees_of earlier) (degrees_of rows) n (length-degrees_of earlier))
+      let first : IsVector ring (degrees_of earlier) (vector_part 0 n c) =
+      subst (λ ds. IsVector ring ds (vector_part 0 n c)) (slice_range-first (degrees_of earlier) (degrees_of rows) n (length-degrees_of earlier))
       (IsVector-part_terms ring (degrees_of earlier ++ degrees_of rows) 0 n c blocks) in
       let fits : n + length (degrees_of rows) ≤ end = rw length-degrees_of (omega arith) in
-      let last : IsVector ring (degrees_of rows) (part_of n end c) =
-      subst (λ ds. IsVector ring ds (part_of n end c)) (slice_range-second (degrees_of earlier) (degrees_of rows) n end (length-degrees_of earlier) fits)
+      let last : IsVector ring (degrees_of rows) (vector_part n end c) =
+      subst (λ ds. IsVector ring ds (vector_part n end c)) (slice_range-second (degrees_of earlier) (degrees_of rows) n end (length-degrees_of earlier) fits)
       (IsVector-part_terms ring (degrees_of earlier ++ degrees_of rows) n end c blocks) in
       let size : length (degrees_of earlier ++ degrees_of rows) ≡ n + length rows = rw length-append (λ i. length-degrees_of earlier i + length-degrees_of rows i) in
       let within : IsWithin (n + length rows) c.terms = subst (λ k. IsWithin k c.terms) size (AllByRecursion-weaken _ _ (λ t k. k.0) c.terms blocks.homogeneous) in
@@ -92,12 +93,12 @@ module _ (ring : Ring) (positive : IsRing ring) (target : List ℤ) (earlier row
       let sum : IsSumAt ring target (InSpan (matrix_of ring target rows)) earlier c.degree (row_combination ring (earlier ++ rows) c.terms) = record {
         first = row_combination ring rows (part_terms n end c.terms);
         coefficients = part_terms 0 n c.terms;
-        inside = (part_of n end c, last, refl);
+        inside = (vector_part n end c, last, refl);
         vector = first;
         sum =
-            add_comm (place_cmp ring.weights) (place_cmp_linear ring.weights) ring.modulus positive.modulus (row_combination ring rows (part_terms n end c.terms)) (row_combination ring earlier (part_terms 0 n c.terms))
+            row_sum-comm ring positive.modulus (row_combination ring rows (part_terms n end c.terms)) (row_combination ring earlier (part_terms 0 n c.terms))
             ∙ sym (row_combination-stacked ring positive.modulus earlier rows (part_terms 0 n c.terms) (part_terms n end c.terms) first_within)
-            ∙ ap (row_combination ring (earlier ++ rows)) (pair_terms-parts ring.weights n (length rows) c.terms blocks.canonical.descending within);
+            ∙ ap (row_combination ring (earlier ++ rows)) (paired_terms-parts ring.weights n (length rows) c.terms blocks.canonical.descending within);
       } in
       IsSumAt-to ring target (InSpan (matrix_of ring target rows)) earlier v (subst (λ (w : Vector). IsSumAt ring target (InSpan (matrix_of ring target rows)) earlier w.degree w.terms) h.2 sum)
 

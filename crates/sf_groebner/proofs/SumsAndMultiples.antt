@@ -6,11 +6,13 @@ use Rattle.sf_algebra.specs.Multiples.{place_product, combination}
 use Rattle.sf_algebra.specs.Rings.{Ring, IsRing}
 use Rattle.sf_algebra.specs.Sums.{add}
 use Rattle.sf_algebra.specs.Terms.{Term}
+use Rattle.sf_algebra.specs.VectorOperations.{row_sum}
 use Rattle.sf_algebra.specs.Vectors.{Place, Vector, place_cmp, IsVector}
 use Rattle.sf_algebra.proofs.HomogeneousVectors.{IsVector-add, IsVector-row_combination}
 use Rattle.sf_algebra.proofs.Keys.{place_keys}
 use Rattle.sf_algebra.proofs.Orders.{place_cmp_linear}
 use Rattle.sf_algebra.proofs.ProductParts.{combination-no_rows}
+use Rattle.sf_algebra.proofs.RowSums.{row_sum-nil}
 use Rattle.sf_algebra.proofs.Rows.{row_combination-add, row_combination-matrix_product}
 use Rattle.sf_algebra.proofs.Sums.{add-nil}
 use Rattle.sf_groebner.specs.Presentations.{IsZero}
@@ -22,7 +24,7 @@ scaled ring v c = record { degree = c.degree; terms = row_combination ring (v �
 
 -- sums of two vectors of one degree and multiples are in B
 pub record HasSumsAndMultiples (ring : Ring) (B : Vector → Type 0) : Type 0 where
-  pub sums : (d : ℤ) (us vs : List (Term Place)) → B (record { degree = d; terms = us }) → B (record { degree = d; terms = vs }) → B (record { degree = d; terms = add (place_cmp ring.weights) ring.modulus us vs })
+  pub sums : (d : ℤ) (us vs : List (Term Place)) → B (record { degree = d; terms = us }) → B (record { degree = d; terms = vs }) → B (record { degree = d; terms = row_sum ring us vs })
   pub multiples : (v c : Vector) → B v → IsVector ring (v.degree ∷ []) c → B (scaled ring v c)
 
 -- the matrix of one row
@@ -43,9 +45,9 @@ module _ (m : Matrix) (positive : IsRing m.ring) where
         let second : (k.0).degree ≡ d = ap (λ x. x.degree) k.2 in
         let first_vector = subst (λ e. IsVector m.ring (row_degrees m) (record { degree = e; terms = (h.0).terms })) first h.1 in
         let second_vector = subst (λ e. IsVector m.ring (row_degrees m) (record { degree = e; terms = (k.0).terms })) second k.1 in (
-          record { degree = d; terms = add (place_cmp m.ring.weights) m.ring.modulus (h.0).terms (k.0).terms },
+          record { degree = d; terms = row_sum m.ring (h.0).terms (k.0).terms },
           IsVector-add m.ring (row_degrees m) positive.modulus d (h.0).terms (k.0).terms first_vector second_vector,
-          (λ i. record { degree = d; terms = (row_combination-add m.ring positive.modulus m.rows (h.0).terms (k.0).terms ∙ (λ j. add (place_cmp m.ring.weights) m.ring.modulus ((h.2 j).terms) ((k.2 j).terms))) i }),
+          (λ i. record { degree = d; terms = (row_combination-add m.ring positive.modulus m.rows (h.0).terms (k.0).terms ∙ (λ j. row_sum m.ring ((h.2 j).terms) ((k.2 j).terms))) i }),
         );
     multiples = λ v c h k.
         let coefficients = subst (λ e. IsVector m.ring (e ∷ []) c) (sym (ap (λ x. x.degree) h.2)) k in (
@@ -57,7 +59,7 @@ module _ (m : Matrix) (positive : IsRing m.ring) where
 
 pub zero_closed : (ring : Ring) → IsRing ring → HasSumsAndMultiples ring IsZero
 zero_closed ring positive = record {
-  sums = λ d us vs h k. (λ i. add (place_cmp ring.weights) ring.modulus (h i) (k i)) ∙ add-nil (place_cmp ring.weights) (place_cmp_linear ring.weights) ring.modulus positive.modulus [] (record { descending = tt; residues = tt });
+  sums = λ d us vs h k. (λ i. row_sum ring (h i) (k i)) ∙ row_sum-nil ring positive.modulus [] (record { descending = tt; residues = tt });
   multiples = λ v c h k.
       (λ i. combination (place_cmp ring.weights) place_product ring.modulus (λ k. k.monomial) (λ k. no_row v h k.position i) c.terms) ∙ combination-no_rows (place_keys ring.weights) ring.modulus positive.modulus (λ k. k.monomial) c.terms;
 }

@@ -7,7 +7,8 @@ use Rattle.sf_algebra.specs.Primes.{IsPrime}
 use Rattle.sf_algebra.specs.Rings.{Ring, IsRing, IsOverField}
 use Rattle.sf_algebra.specs.Sums.{add}
 use Rattle.sf_algebra.specs.Terms.{Term, IsCanonical}
-use Rattle.sf_algebra.specs.Vectors.{Place, Vector, place_cmp, IsVector}
+use Rattle.sf_algebra.specs.VectorOperations.{row_sum}
+use Rattle.sf_algebra.specs.Vectors.{Place, Vector, place_cmp, IsVector, IsCanonicalRow}
 use Rattle.sf_algebra.proofs.Keys.{place_keys}
 use Rattle.sf_algebra.proofs.Lists.{AllByRecursion-weaken}
 use Rattle.sf_algebra.proofs.Rows.{IsCanonical-row_combination}
@@ -110,15 +111,15 @@ module _ (ring : Ring) (prime : IsOverField ring) (target : List ℤ) (N : Vecto
       let vector : IsVector ring target (record { degree = v.degree; terms = lead ∷ us }) = subst (λ ts. IsVector ring target (record { degree = v.degree; terms = ts })) shape (submodule.module_like.vectors v h) in
       let e = divide ring prime target rows (monic_vectors ring prime target N submodule rows monic) (record { degree = v.degree; terms = us }) (IsVector-tail ring target v.degree lead us vector) in
       let multiples : Vector = record { degree = v.degree; terms = row_combination ring rows e.quotients } in
-      let canonical : IsCanonical (place_cmp ring.weights) ring.modulus (lead ∷ e.rest) = record {
+      let canonical : IsCanonicalRow ring (lead ∷ e.rest) = record {
         descending = ((e.below lead.at vector.canonical.descending.0).0, e.vector.canonical.descending);
         residues = (vector.canonical.residues.0, e.vector.canonical.residues);
       } in
-      let back : add (place_cmp ring.weights) ring.modulus us (negative ring.modulus multiples.terms) ≡ e.rest =
-      ap (λ ts. add (place_cmp ring.weights) ring.modulus ts (negative ring.modulus multiples.terms)) (sym e.sum)
+      let back : row_sum ring us (negative ring.modulus multiples.terms) ≡ e.rest =
+      ap (λ ts. row_sum ring ts (negative ring.modulus multiples.terms)) (sym e.sum)
       ∙ add-negative_front (place_keys ring.weights) ring.modulus positive.modulus e.rest multiples.terms e.vector.canonical (IsCanonical-row_combination ring positive.modulus rows e.quotients) in
-      let terms : add (place_cmp ring.weights) ring.modulus v.terms (negative ring.modulus multiples.terms) ≡ lead ∷ e.rest =
-      ap (λ ts. add (place_cmp ring.weights) ring.modulus ts (negative ring.modulus multiples.terms)) shape ∙ add-first (place_keys ring.weights) ring.modulus positive.modulus lead us (negative ring.modulus multiples.terms) e.rest canonical back in (
+      let terms : row_sum ring v.terms (negative ring.modulus multiples.terms) ≡ lead ∷ e.rest =
+      ap (λ ts. row_sum ring ts (negative ring.modulus multiples.terms)) shape ∙ add-first (place_keys ring.weights) ring.modulus positive.modulus lead us (negative ring.modulus multiples.terms) e.rest canonical back in (
         record { degree = v.degree; terms = lead ∷ e.rest },
         subst N (λ i. record { degree = v.degree; terms = terms i })
             (submodule.module_like.differences v multiples h (submodule.combinations rows (AllByRecursion-weaken _ _ (λ w k. k.0) rows monic) v.degree e.quotients e.homogeneous) refl),

@@ -9,7 +9,7 @@ use Rattle.sf_algebra.specs.Residues.{sum_mod, product_mod}
 use Rattle.sf_algebra.specs.Rings.{Ring}
 use Rattle.sf_algebra.specs.Sums.{total, part_at, coefficient_at}
 use Rattle.sf_algebra.specs.Terms.{Term, IsCanonical}
-use Rattle.sf_algebra.specs.Vectors.{Place, Vector, place_cmp}
+use Rattle.sf_algebra.specs.Vectors.{Place, Vector, place_cmp, IsCanonicalRow}
 use Rattle.sf_algebra.proofs.Coefficients.{coefficient_at-above}
 use Rattle.sf_algebra.proofs.Combinations.{coefficient_at-combination, factor, share}
 use Rattle.sf_algebra.proofs.DoubleTotals.{total-each, total-zero}
@@ -20,7 +20,7 @@ use Rattle.sf_algebra.proofs.Orders.{ordering_cases, place_cmp-Equal, place_cmp_
 use Rattle.sf_algebra.proofs.Places.{place_cmp-place_product}
 use Rattle.sf_algebra.proofs.Residues.{product_mod-one, sum_mod-first, sum_mod-zero}
 use Rattle.sf_algebra.proofs.Totals.{total-cons, total-nil, total-reduced}
-use Rattle.sf_groebner.specs.Criterion.{image}
+use Rattle.sf_groebner.specs.Criterion.{lead_multiple}
 use Rattle.sf_groebner.proofs.Images.{HasLeads, IsAtMost, top_part}
 use Rattle.sf_groebner.proofs.PlaceOrder.{Less-not_Greater, less_not_greater}
 
@@ -31,7 +31,7 @@ pub record Begins (b : Place) (v : List (Term Place)) : Type 0 where
   pub shape : v ≡ record { at = b; coefficient = coefficient } ∷ tail
 
 -- a canonical list no place of which is greater than b, and which has a coefficient at b, begins there
-pub begins_at : (ring : Ring) (b : Place) (v : List (Term Place)) (x : ℕ) → IsCanonical (place_cmp ring.weights) ring.modulus v → EachPlace (λ k. place_cmp ring.weights k b ≢ Greater) v → coefficient_at (place_cmp ring.weights) ring.modulus b v ≡ suc x → Begins b v
+pub begins_at : (ring : Ring) (b : Place) (v : List (Term Place)) (x : ℕ) → IsCanonicalRow ring v → EachPlace (λ k. place_cmp ring.weights k b ≢ Greater) v → coefficient_at (place_cmp ring.weights) ring.modulus b v ≡ suc x → Begins b v
 begins_at ring b [] x canonical most some = let none = total-nil ring.modulus (part_at (place_cmp ring.weights) b) in absurd (no_suc x (sym none ∙ some))
   where
     no_suc : (n : ℕ) → 0 ≢ suc n
@@ -82,7 +82,7 @@ module _ (ring : Ring) (n : ℕ) (In : Place → Type 0) (rows : List Vector) (l
       ∙ total-cons ring.modulus g _ (leads.tail t.at.position)
       ∙ ap (sum_mod ring.modulus (g (record { at = lead t.at.position; coefficient = 1 }))) none
       ∙ sum_mod-zero ring.modulus _
-      ∙ chosen (is_eq (place_cmp ring.weights (image lead t.at) b))
+      ∙ chosen (is_eq (place_cmp ring.weights (lead_multiple lead t.at) b))
     where
       chosen : (e : Bool) → (if e then product_mod ring.modulus t.coefficient 1 else 0) % ring.modulus ≡ (if e then t.coefficient else 0) % ring.modulus
       chosen true = sym (sum_mod-zero ring.modulus _) ∙ ap (λ n. sum_mod ring.modulus n 0) (product_mod-one ring.modulus t.coefficient) ∙ sum_mod-first ring.modulus t.coefficient 0 ∙ sum_mod-zero ring.modulus t.coefficient

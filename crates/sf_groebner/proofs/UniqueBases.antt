@@ -5,7 +5,8 @@ use Rattle.sf_algebra.specs.Multiples.{negative}
 use Rattle.sf_algebra.specs.Rings.{Ring, IsRing}
 use Rattle.sf_algebra.specs.Sums.{add}
 use Rattle.sf_algebra.specs.Terms.{Term, IsCanonical}
-use Rattle.sf_algebra.specs.Vectors.{Place, Vector, place_cmp, term_degree}
+use Rattle.sf_algebra.specs.VectorOperations.{row_sum, vector_difference}
+use Rattle.sf_algebra.specs.Vectors.{Place, Vector, place_cmp, place_degree, IsCanonicalRow}
 use Rattle.sf_algebra.proofs.Coefficients.{IsCanonical-tail}
 use Rattle.sf_algebra.proofs.Keys.{place_keys}
 use Rattle.sf_algebra.proofs.Lists.{AllByRecursion-weaken}
@@ -16,7 +17,7 @@ use Rattle.sf_groebner.specs.ReducedBases.{lead_divides, is_divided, HasDividedL
 use Rattle.sf_groebner.proofs.Apart.{IsMonic-lead, lead_divides-tail, IsApart-lead, IsApart-tail}
 use Rattle.sf_groebner.proofs.Differences.{add-negative_first, add-negative_same}
 use Rattle.sf_groebner.proofs.Items.{IsItem, AllByRecursion-item, list_any-item}
-use Rattle.sf_groebner.proofs.Modules.{difference, IsModuleLike}
+use Rattle.sf_groebner.proofs.Modules.{IsModuleLike}
 use Rattle.sf_groebner.proofs.PlaceDivisors.{Decides-place_divides, PlaceDivides-trans, PlaceDivides-antisymm}
 use Rattle.sf_groebner.proofs.Sorted.{same_sorted}
 
@@ -28,8 +29,8 @@ pub record Element (ring : Ring) (degrees : List ℤ) (N : Vector → Type 0) (b
   pub tail : List (Term Place)
   pub terms : v.terms ≡ lead ∷ tail
   pub one : lead.coefficient ≡ 1
-  pub canonical : IsCanonical (place_cmp ring.weights) ring.modulus (lead ∷ tail)
-  pub degree : v.degree ≡ term_degree ring.weights degrees lead
+  pub canonical : IsCanonicalRow ring (lead ∷ tail)
+  pub degree : v.degree ≡ place_degree ring.weights degrees lead.at
 
 module _ (ring : Ring) (positive : IsRing ring) (degrees : List ℤ) (N : Vector → Type 0) (module_like : IsModuleLike ring degrees N) where
   pub element : (basis : List Vector) → IsReducedBasis ring.weights N basis → (v : Vector) → IsItem v basis → Element ring degrees N basis v
@@ -44,7 +45,7 @@ module _ (ring : Ring) (positive : IsRing ring) (degrees : List ℤ) (N : Vector
         tail = lead.1;
         terms = lead.2;
         one = lead.3;
-        canonical = subst (IsCanonical (place_cmp ring.weights) ring.modulus) lead.2 vector.canonical;
+        canonical = subst (IsCanonicalRow ring) lead.2 vector.canonical;
         degree = (subst (AllByRecursion _) lead.2 vector.homogeneous).0.1;
       }
 
@@ -66,18 +67,18 @@ module _ (ring : Ring) (positive : IsRing ring) (degrees : List ℤ) (N : Vector
   same_tails : (u v : Vector) → N u → N v → u.degree ≡ v.degree → (t : Term Place) (us vs : List (Term Place)) → u.terms ≡ t ∷ us → v.terms ≡ t ∷ vs
       → (first second : List Vector) → IsReducedBasis ring.weights N first → IsReducedBasis ring.weights N second → IsReducedBy first us → IsReducedBy second vs → us ≡ vs
   same_tails u v hu hv degree t us vs eu ev first second hf hs free_us free_vs =
-      let cu : IsCanonical (place_cmp ring.weights) ring.modulus (t ∷ us) = subst (IsCanonical (place_cmp ring.weights) ring.modulus) eu (module_like.vectors u hu).canonical in
-      let cv : IsCanonical (place_cmp ring.weights) ring.modulus (t ∷ vs) = subst (IsCanonical (place_cmp ring.weights) ring.modulus) ev (module_like.vectors v hv).canonical in
-      let terms : add (place_cmp ring.weights) ring.modulus u.terms (negative ring.modulus v.terms) ≡ add (place_cmp ring.weights) ring.modulus us (negative ring.modulus vs) =
-      (λ i. add (place_cmp ring.weights) ring.modulus (eu i) (negative ring.modulus (ev i))) ∙ add-negative_first (place_keys ring.weights) ring.modulus positive.modulus t us vs cu cv in
+      let cu : IsCanonicalRow ring (t ∷ us) = subst (IsCanonicalRow ring) eu (module_like.vectors u hu).canonical in
+      let cv : IsCanonicalRow ring (t ∷ vs) = subst (IsCanonicalRow ring) ev (module_like.vectors v hv).canonical in
+      let terms : row_sum ring u.terms (negative ring.modulus v.terms) ≡ row_sum ring us (negative ring.modulus vs) =
+      (λ i. row_sum ring (eu i) (negative ring.modulus (ev i))) ∙ add-negative_first (place_keys ring.weights) ring.modulus positive.modulus t us vs cu cv in
       let inside = module_like.differences u v hu hv degree in
-      let free : EachPlace NotBoth (add (place_cmp ring.weights) ring.modulus us (negative ring.modulus vs)) =
+      let free : EachPlace NotBoth (row_sum ring us (negative ring.modulus vs)) =
       EachPlace-add NotBoth (place_cmp ring.weights) ring.modulus us (negative ring.modulus vs)
       (AllByRecursion-weaken _ _ (λ x h a b. clash (is_divided first x.at) a h) us free_us)
       (EachPlace-negative NotBoth ring.modulus vs (AllByRecursion-weaken _ _ (λ x h a b. clash (is_divided second x.at) b h) vs free_vs)) in
-      let none = no_lead (add (place_cmp ring.weights) ring.modulus us (negative ring.modulus vs)) free
-      (subst (HasDividedLead first) terms (hf.complete (difference ring u v) inside))
-      (subst (HasDividedLead second) terms (hs.complete (difference ring u v) inside)) in
+      let none = no_lead (row_sum ring us (negative ring.modulus vs)) free
+      (subst (HasDividedLead first) terms (hf.complete (vector_difference ring u v) inside))
+      (subst (HasDividedLead second) terms (hs.complete (vector_difference ring u v) inside)) in
       add-negative_same (place_keys ring.weights) ring.modulus positive.modulus us vs (IsCanonical-tail (place_cmp ring.weights) ring.modulus t us cu) (IsCanonical-tail (place_cmp ring.weights) ring.modulus t vs cv) none
     where
       NotBoth : Place → Type 0
@@ -115,7 +116,7 @@ module _ (ring : Ring) (positive : IsRing ring) (degrees : List ℤ) (N : Vector
         let other = same_lead v e in
         let w = other.0 in
         let f = other.1 in
-        let degree : v.degree ≡ w.degree = e.degree ∙ ap (term_degree ring.weights degrees) other.2 ∙ sym f.degree in
+        let degree : v.degree ≡ w.degree = e.degree ∙ ap (λ (t : Term Place). place_degree ring.weights degrees t.at) other.2 ∙ sym f.degree in
         let terms : w.terms ≡ e.lead ∷ f.tail = f.terms ∙ ap (λ t. t ∷ f.tail) (sym other.2) in
         let tails = same_tails v w e.inside f.inside degree e.lead e.tail f.tail e.terms terms first second hf hs (tail-reduced first hf v e) (tail-reduced second hs w f) in
         let same : v ≡ w = λ i. record { degree = degree i; terms = (e.terms ∙ ap (λ us. e.lead ∷ us) tails ∙ sym terms) i } in

@@ -3,18 +3,18 @@ use Rattle.std.specs.Prelude.{◌≡◌, ◌<◌, List}
 use Rattle.sf_algebra.specs.Matrices.{Matrix, IsMatrix}
 use Rattle.sf_algebra.specs.Rings.{IsRing}
 use Rattle.sf_algebra.specs.Vectors.{Vector}
-use Rattle.sf_groebner.specs.ReducedBases.{IsReducedBasis}
+use Rattle.sf_groebner.specs.ReducedBases.{IsReducedBasis, IsSpanBasis, IsSyzygyBasis, IsGraphBasis}
 use Rattle.sf_groebner.specs.Spans.{InSpan, IsSyzygy, IsGraphVector}
 
 -- the span has at most one reduced basis
 abbrev pub HasOneSpanBasis : Type 0
 HasOneSpanBasis =
-    (m : Matrix) → IsRing m.ring → IsMatrix m → (a b : List Vector) → IsReducedBasis m.ring.weights (InSpan m) a → IsReducedBasis m.ring.weights (InSpan m) b → a ≡ b
+    (m : Matrix) → IsRing m.ring → IsMatrix m → (a b : List Vector) → IsSpanBasis m a → IsSpanBasis m b → a ≡ b
 
 -- so have the syzygies
 abbrev pub HasOneSyzygyBasis : Type 0
-HasOneSyzygyBasis = (m : Matrix) → IsRing m.ring → (a b : List Vector) → IsReducedBasis m.ring.weights (IsSyzygy m) a → IsReducedBasis m.ring.weights (IsSyzygy m) b → a ≡ b
+HasOneSyzygyBasis = (m : Matrix) → IsRing m.ring → (a b : List Vector) → IsSyzygyBasis m a → IsSyzygyBasis m b → a ≡ b
 
 -- so has the graph
 abbrev pub HasOneGraphBasis : Type 0
-HasOneGraphBasis = (m : Matrix) → IsRing m.ring → (a b : List Vector) → IsReducedBasis m.ring.weights (IsGraphVector m) a → IsReducedBasis m.ring.weights (IsGraphVector m) b → a ≡ b
+HasOneGraphBasis = (m : Matrix) → IsRing m.ring → (a b : List Vector) → IsGraphBasis m a → IsGraphBasis m b → a ≡ b

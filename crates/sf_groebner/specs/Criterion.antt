@@ -11,7 +11,8 @@ use Rattle.sf_algebra.specs.Residues.{negative_mod}
 use Rattle.sf_algebra.specs.Rings.{Ring, Weights}
 use Rattle.sf_algebra.specs.Sums.{normal, add}
 use Rattle.sf_algebra.specs.Terms.{Term, IsCanonical}
-use Rattle.sf_algebra.specs.Vectors.{Place, Vector, place_cmp, generator_degree}
+use Rattle.sf_algebra.specs.VectorOperations.{row_sum}
+use Rattle.sf_algebra.specs.Vectors.{Place, Vector, place_cmp, generator_degree, IsCanonicalRow}
 use Rattle.sf_groebner.specs.ReducedBases.{IsMonic}
 
 -- where the first term of a list stands; at the first position with the monomial 1 where there is none
@@ -24,8 +25,8 @@ abbrev pub lead_at : List Vector → ℕ → Place
 lead_at rows i = lead_place (row_at rows i)
 
 -- the image of a coefficient's place, for the leads of the rows: its monomial times the lead of the row at its position
-abbrev pub image : (ℕ → Place) → Place → Place
-image lead k = place_product k.monomial (lead k.position)
+abbrev pub lead_multiple : (ℕ → Place) → Place → Place
+lead_multiple lead k = place_product k.monomial (lead k.position)
 
 -- the least common multiple of the leads of two rows that stand at one position
 abbrev pub lcm_place : (ℕ → Place) → ℕ → ℕ → Place
@@ -36,41 +37,37 @@ abbrev pub pair_place : (ℕ → Place) → ℕ → ℕ → Place
 pair_place lead i j = record { position = i; monomial = quotient (lcm (lead i).monomial (lead j).monomial) (lead i).monomial }
 
 -- the coefficients of the S-vector of rows i and j: what takes both leads to their least common multiple, and there to 0
-abbrev pub pair_terms : ℕ → (ℕ → Place) → ℕ → ℕ → List (Term Place)
-pair_terms p lead i j = record { at = pair_place lead i j; coefficient = 1 } ∷ (record { at = pair_place lead j i; coefficient = negative_mod p 1 } ∷ [])
+abbrev pub s_coefficients : ℕ → (ℕ → Place) → ℕ → ℕ → List (Term Place)
+s_coefficients p lead i j = record { at = pair_place lead i j; coefficient = 1 } ∷ (record { at = pair_place lead j i; coefficient = negative_mod p 1 } ∷ [])
 
 -- the S-vector of rows i and j
 abbrev pub s_vector : Ring → List Vector → ℕ → ℕ → List (Term Place)
-s_vector ring rows i j = row_combination ring rows (pair_terms ring.modulus (lead_at rows) i j)
-
--- the degree of a place: that of its generator and the sum of the exponents
-abbrev pub place_degree : Weights → List ℤ → Place → ℤ
-place_degree weights degrees k = generator_degree degrees k.position +ℤ pos (monomial_degree weights k.monomial)
+s_vector ring rows i j = row_combination ring rows (s_coefficients ring.modulus (lead_at rows) i j)
 
 -- a term stands for one of the rows
 abbrev pub IsForRows : List Vector → Term Place → Type 0
 IsForRows rows t = t.at.position < length rows
 
 -- a coefficient for one of the rows, whose image is less than b
-abbrev pub HasImageBelow : Weights → List Vector → Place → Term Place → Type 0
-HasImageBelow weights rows b t = IsForRows rows t × (place_cmp weights (image (lead_at rows) t.at) b ≡ Less)
+abbrev pub HasMultipleBelow : Weights → List Vector → Place → Term Place → Type 0
+HasMultipleBelow weights rows b t = IsForRows rows t × (place_cmp weights (lead_multiple (lead_at rows) t.at) b ≡ Less)
 
 -- the pair of rows i and j reduces to zero: its S-vector is a combination of rows whose images are less than the least common multiple
 pub record ReducesToZero (ring : Ring) (rows : List Vector) (i j : ℕ) : Type 0 where
   pub steps : List (Term Place)
-  pub below : AllByRecursion (HasImageBelow ring.weights rows (lcm_place (lead_at rows) i j)) steps
+  pub below : AllByRecursion (HasMultipleBelow ring.weights rows (lcm_place (lead_at rows) i j)) steps
   pub value : row_combination ring rows steps ≡ s_vector ring rows i j
 
 -- z is a syzygy of the pair of rows i and j: the coefficients of its S-vector without those of such a combination
 pub record IsPairSyzygy (ring : Ring) (rows : List Vector) (i j : ℕ) (z : List (Term Place)) : Type 0 where
   pub steps : List (Term Place)
-  pub below : AllByRecursion (HasImageBelow ring.weights rows (lcm_place (lead_at rows) i j)) steps
-  pub sum : add (place_cmp ring.weights) ring.modulus z steps ≡ normal (place_cmp ring.weights) ring.modulus (pair_terms ring.modulus (lead_at rows) i j)
+  pub below : AllByRecursion (HasMultipleBelow ring.weights rows (lcm_place (lead_at rows) i j)) steps
+  pub sum : row_sum ring z steps ≡ normal (place_cmp ring.weights) ring.modulus (s_coefficients ring.modulus (lead_at rows) i j)
   pub zero : row_combination ring rows z ≡ []
 
 -- a row without zero coefficients whose lead has the coefficient 1
 pub record IsMonicRow (ring : Ring) (v : Vector) : Type 0 where
-  pub canonical : IsCanonical (place_cmp ring.weights) ring.modulus v.terms
+  pub canonical : IsCanonicalRow ring v.terms
   pub monic : IsMonic v.terms
 
 -- the leads of two rows stand at one position

@@ -3,33 +3,33 @@
 use Rattle.std.specs.Prelude.{◌≡◌, ◌↔◌, ◌<◌, ◌+◌, List, length}
 use Rattle.std.specs.List.{AllByRecursion, filter}
 use Rattle.sf_algebra.specs.Matrices.{Matrix, IsMatrix}
-use Rattle.sf_algebra.specs.MatrixOperations.{stacked}
+use Rattle.sf_algebra.specs.MatrixOperations.{stacked, vector_part}
 use Rattle.sf_algebra.specs.Rings.{IsRing}
 use Rattle.sf_algebra.specs.Vectors.{Vector}
-use Rattle.sf_groebner.specs.Cuts.{part_of, has_first_part, first_parts, last_parts, IsFirstBlock}
+use Rattle.sf_groebner.specs.Cuts.{has_first_part, first_parts, last_parts, IsFirstBlock}
 use Rattle.sf_groebner.specs.Lifts.{IsLift}
 use Rattle.sf_groebner.specs.Presentations.{IsRelation}
-use Rattle.sf_groebner.specs.ReducedBases.{IsReducedBasis}
+use Rattle.sf_groebner.specs.ReducedBases.{IsReducedBasis, IsSpanBasis, IsSyzygyBasis, IsGraphBasis}
 use Rattle.sf_groebner.specs.Spans.{InSpan, IsSyzygy, IsGraphVector}
 
 -- of the reduced basis of a graph, the value parts that aren't 0 are the reduced basis of the span
 abbrev pub HasSpanOfValues : Type 0
 HasSpanOfValues =
-    (m : Matrix) → IsRing m.ring → IsMatrix m → (basis : List Vector) → IsReducedBasis m.ring.weights (IsGraphVector m) basis
-    → IsReducedBasis m.ring.weights (InSpan m) (first_parts (length m.target) basis)
+    (m : Matrix) → IsRing m.ring → IsMatrix m → (basis : List Vector) → IsGraphBasis m basis
+    → IsSpanBasis m (first_parts (length m.target) basis)
 
 -- the coefficient parts of the others are the reduced basis of the syzygies
 abbrev pub HasSyzygiesOfOthers : Type 0
 HasSyzygiesOfOthers =
-    (m : Matrix) → IsRing m.ring → (basis : List Vector) → IsReducedBasis m.ring.weights (IsGraphVector m) basis
-    → IsReducedBasis m.ring.weights (IsSyzygy m) (last_parts (length m.target) (length m.target + length m.rows) basis)
+    (m : Matrix) → IsRing m.ring → (basis : List Vector) → IsGraphBasis m basis
+    → IsSyzygyBasis m (last_parts (length m.target) (length m.target + length m.rows) basis)
 
 -- the coefficient part of a row with a value part is the lift of that part
 abbrev pub HasLiftsOfValues : Type 0
 HasLiftsOfValues =
-    (m : Matrix) → IsRing m.ring → (basis : List Vector) → IsReducedBasis m.ring.weights (IsGraphVector m) basis
+    (m : Matrix) → IsRing m.ring → (basis : List Vector) → IsGraphBasis m basis
     → AllByRecursion
-    (λ (w : Vector). IsLift m (part_of 0 (length m.target) w) (part_of (length m.target) (length m.target + length m.rows) w))
+    (λ (w : Vector). IsLift m (vector_part 0 (length m.target) w) (vector_part (length m.target) (length m.target + length m.rows) w))
     (filter (has_first_part (length m.target)) basis)
 
 -- of the reduced basis of the syzygies of a stack, the first blocks that aren't 0 are the reduced basis of all first blocks

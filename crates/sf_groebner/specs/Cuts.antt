@@ -2,7 +2,7 @@
 use Rattle.std.specs.Prelude.{◌≡◌, Bool, true, false, not, ℕ, List, [], ◌∷◌, length, map}
 use Rattle.std.specs.List.{filter}
 use Rattle.sf_algebra.specs.Matrices.{Matrix}
-use Rattle.sf_algebra.specs.MatrixOperations.{part_terms, stacked}
+use Rattle.sf_algebra.specs.MatrixOperations.{part_terms, stacked, vector_part}
 use Rattle.sf_algebra.specs.Terms.{Term}
 use Rattle.sf_algebra.specs.Vectors.{Place, Vector}
 use Rattle.sf_groebner.specs.Spans.{IsSyzygy}
@@ -12,22 +12,18 @@ abbrev pub has_terms : List (Term Place) → Bool
 has_terms [] = false
 has_terms (t ∷ ts) = true
 
--- the part of a vector at the positions from `from` to before `to`, counted from `from`
-abbrev pub part_of : ℕ → ℕ → Vector → Vector
-part_of from to v = record { degree = v.degree; terms = part_terms from to v.terms }
-
 -- whether a vector has a term at the first n positions
 abbrev pub has_first_part : ℕ → Vector → Bool
 has_first_part n v = has_terms (part_terms 0 n v.terms)
 
 -- the parts at the first n positions, of the vectors that have a term there
 abbrev pub first_parts : ℕ → List Vector → List Vector
-first_parts n vs = map (part_of 0 n) (filter (has_first_part n) vs)
+first_parts n vs = map (vector_part 0 n) (filter (has_first_part n) vs)
 
 -- the parts behind them, up to before `end`, of the vectors that have none there
 abbrev pub last_parts : ℕ → ℕ → List Vector → List Vector
-last_parts n end vs = map (part_of n end) (filter (λ (v : Vector). not (has_first_part n v)) vs)
+last_parts n end vs = map (vector_part n end) (filter (λ (v : Vector). not (has_first_part n v)) vs)
 
 -- v is the first block of a syzygy of the rows of a and those of b: the coefficients of the rows of a
 abbrev pub IsFirstBlock : Matrix → Matrix → Vector → Type 0
-IsFirstBlock a b v = (c : Vector) × IsSyzygy (stacked a b) c × (part_of 0 (length a.rows) c ≡ v)
+IsFirstBlock a b v = (c : Vector) × IsSyzygy (stacked a b) c × (vector_part 0 (length a.rows) c ≡ v)

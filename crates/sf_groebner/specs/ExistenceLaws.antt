@@ -7,25 +7,26 @@ use Rattle.sf_algebra.specs.Multiples.{negative}
 use Rattle.sf_algebra.specs.Primes.{IsPrime}
 use Rattle.sf_algebra.specs.Rings.{Ring, IsRing, IsOverField}
 use Rattle.sf_algebra.specs.Sums.{add}
+use Rattle.sf_algebra.specs.VectorOperations.{row_sum, vector_difference}
 use Rattle.sf_algebra.specs.Vectors.{Vector, place_cmp, IsVector}
 use Rattle.sf_groebner.specs.Lifts.{IsLift}
 use Rattle.sf_groebner.specs.MinimalGenerators.{matrix_of}
 use Rattle.sf_groebner.specs.Presentations.{IsReducedByRelations}
-use Rattle.sf_groebner.specs.ReducedBases.{IsReducedBasis, IsReducedBy}
+use Rattle.sf_groebner.specs.ReducedBases.{IsReducedBasis, IsReducedBy, IsSpanBasis, IsSyzygyBasis, IsGraphBasis}
 use Rattle.sf_groebner.specs.Small.{IsSmall, IsLarge}
 use Rattle.sf_groebner.specs.Spans.{InSpan, IsCoefficients, IsGraphVector, IsSyzygy}
 
 -- the graph has a reduced basis
 abbrev pub HasGraphBasis : Type 0
-HasGraphBasis = (m : Matrix) → IsOverField m.ring → IsMatrix m → (basis : List Vector) × IsReducedBasis m.ring.weights (IsGraphVector m) basis
+HasGraphBasis = (m : Matrix) → IsOverField m.ring → IsMatrix m → (basis : List Vector) × IsGraphBasis m basis
 
 -- the span has one
 abbrev pub HasSpanBasis : Type 0
-HasSpanBasis = (m : Matrix) → IsOverField m.ring → IsMatrix m → (basis : List Vector) × IsReducedBasis m.ring.weights (InSpan m) basis
+HasSpanBasis = (m : Matrix) → IsOverField m.ring → IsMatrix m → (basis : List Vector) × IsSpanBasis m basis
 
 -- the syzygies have one
 abbrev pub HasSyzygyBasis : Type 0
-HasSyzygyBasis = (m : Matrix) → IsOverField m.ring → IsMatrix m → (basis : List Vector) × IsReducedBasis m.ring.weights (IsSyzygy m) basis
+HasSyzygyBasis = (m : Matrix) → IsOverField m.ring → IsMatrix m → (basis : List Vector) × IsSyzygyBasis m basis
 
 -- the answer for a limit: the reduced basis of the graph where m is small, and none where it is large
 abbrev pub IsAnswer : ℕ → Matrix → Option (List Vector) → Type 0
@@ -48,25 +49,25 @@ pub record IsDivision (ring : Ring) (target : List ℤ) (rows : List Vector) (v 
   pub coefficients : IsCoefficients (matrix_of ring target rows) quotients
   pub quotients_degree : quotients.degree ≡ v.degree
   pub reduced : IsReducedBy rows rest.terms
-  pub sum : add (place_cmp ring.weights) ring.modulus rest.terms (row_combination ring rows quotients.terms) ≡ v.terms
+  pub sum : row_sum ring rest.terms (row_combination ring rows quotients.terms) ≡ v.terms
 
 -- a vector has a division by the reduced basis of a span
 abbrev pub HasDivisions : Type 0
 HasDivisions =
-    (m : Matrix) → IsOverField m.ring → IsMatrix m → (basis : List Vector) → IsReducedBasis m.ring.weights (InSpan m) basis → (v : Vector) → IsVector m.ring m.target v
+    (m : Matrix) → IsOverField m.ring → IsMatrix m → (basis : List Vector) → IsSpanBasis m basis → (v : Vector) → IsVector m.ring m.target v
     → (rest : Vector) × (quotients : Vector) × IsDivision m.ring m.target basis v rest quotients
 
 -- two divisions of it leave one rest
 abbrev pub HasOneRest : Type 0
 HasOneRest =
-    (m : Matrix) → IsRing m.ring → IsMatrix m → (basis : List Vector) → IsReducedBasis m.ring.weights (InSpan m) basis
+    (m : Matrix) → IsRing m.ring → IsMatrix m → (basis : List Vector) → IsSpanBasis m basis
     → (v : Vector) → IsVector m.ring m.target v → (rest quotients other others : Vector)
     → IsDivision m.ring m.target basis v rest quotients → IsDivision m.ring m.target basis v other others → rest ≡ other
 
 -- the rest is none exactly where the vector is in the span
 abbrev pub HasRestInside : Type 0
 HasRestInside =
-    (m : Matrix) → IsRing m.ring → IsMatrix m → (basis : List Vector) → IsReducedBasis m.ring.weights (InSpan m) basis
+    (m : Matrix) → IsRing m.ring → IsMatrix m → (basis : List Vector) → IsSpanBasis m basis
     → (v : Vector) → IsVector m.ring m.target v → (rest quotients : Vector)
     → IsDivision m.ring m.target basis v rest quotients → rest.terms ≡ [] ↔ InSpan m v
 
@@ -75,7 +76,7 @@ abbrev pub HasReducedVector : Type 0
 HasReducedVector =
     (m : Matrix) → IsOverField m.ring → IsMatrix m → (v : Vector) → IsVector m.ring m.target v
     → (w : Vector) × IsVector m.ring m.target w × (w.degree ≡ v.degree)
-    × InSpan m (record { degree = v.degree; terms = add (place_cmp m.ring.weights) m.ring.modulus v.terms (negative m.ring.modulus w.terms) }) × IsReducedByRelations m w
+    × InSpan m (vector_difference m.ring v w) × IsReducedByRelations m w
 
 -- a vector of the span has a lift
 abbrev pub HasLifts : Type 0

@@ -8,6 +8,7 @@ use Rattle.sf_algebra.specs.Multiples.{place_product, multiple, negative}
 use Rattle.sf_algebra.specs.Rings.{Ring, IsRing}
 use Rattle.sf_algebra.specs.Sums.{add}
 use Rattle.sf_algebra.specs.Terms.{Term}
+use Rattle.sf_algebra.specs.VectorOperations.{row_sum, row_multiple, vector_difference}
 use Rattle.sf_algebra.specs.Vectors.{Place, Vector, place_cmp}
 use Rattle.sf_groebner.specs.Homology.{IsAny, IsCycle}
 use Rattle.sf_groebner.specs.Presentations.{IsModuleMap}
@@ -16,7 +17,7 @@ use Rattle.sf_groebner.specs.Spans.{IsCoefficients, combined, InSpan}
 -- two vectors of one degree that differ by one of N
 pub record AreEqualModulo (ring : Ring) (N : Vector → Type 0) (u v : Vector) : Type 0 where
   pub degrees : u.degree ≡ v.degree
-  pub difference : N (record { degree = u.degree; terms = add (place_cmp ring.weights) ring.modulus u.terms (negative ring.modulus v.terms) })
+  pub difference : N (vector_difference ring u v)
 
 -- a map goes from a free module into the module with these relations
 pub record IsMapInto (relations map : Matrix) : Type 0 where
@@ -33,7 +34,7 @@ pub record IsSquare (upper upper_relations lower lower_relations left right : Ma
   pub lower_map : IsMapInto lower_relations lower
   pub right_map : IsModuleMap upper_relations lower_relations right
   pub left_matrix : IsMatrix left
-  pub left_modulus : left.ring ≡ right.ring
+  pub left_ring : left.ring ≡ right.ring
   pub left_source : row_degrees left ≡ row_degrees upper
   pub left_target : left.target ≡ row_degrees lower
   pub commutes : (c : Vector) → IsCoefficients upper c
@@ -66,11 +67,11 @@ pub record ActsOnClasses (N B M A : Vector → Type 0) (map : Matrix) : Type 0 w
   pub zeros : (v : Vector) → B v → A (combined map v)
   pub classes : (u v : Vector) → N u → N v → AreEqualModulo map.ring B u v → AreEqualModulo map.ring A (combined map u) (combined map v)
   pub sums : (us vs : List (Term Place))
-      → row_combination map.ring map.rows (add (place_cmp map.ring.weights) map.ring.modulus us vs)
-      ≡ add (place_cmp map.ring.weights) map.ring.modulus (row_combination map.ring map.rows us) (row_combination map.ring map.rows vs)
+      → row_combination map.ring map.rows (row_sum map.ring us vs)
+      ≡ row_sum map.ring (row_combination map.ring map.rows us) (row_combination map.ring map.rows vs)
   pub multiples : (s : Term Monomial) (us : List (Term Place))
-      → row_combination map.ring map.rows (multiple (place_cmp map.ring.weights) place_product map.ring.modulus s us)
-      ≡ multiple (place_cmp map.ring.weights) place_product map.ring.modulus s (row_combination map.ring map.rows us)
+      → row_combination map.ring map.rows (row_multiple map.ring s us)
+      ≡ row_multiple map.ring s (row_combination map.ring map.rows us)
 
 -- maps of complexes act on homology: cycles go to cycles and boundaries to boundaries
 abbrev pub ActsOnHomology : Type 0

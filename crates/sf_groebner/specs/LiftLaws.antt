@@ -1,13 +1,14 @@
 -- What holds of lifts and of coordinates. (Textbook; the choice is this project's own.)
 use Rattle.std.specs.Prelude.{◌≡◌, ◌↔◌, ◌<◌, List, length}
 use Rattle.sf_algebra.specs.Matrices.{Matrix, row_degrees, IsMatrix}
-use Rattle.sf_algebra.specs.MatrixOperations.{part_terms, stacked}
+use Rattle.sf_algebra.specs.MatrixOperations.{part_terms, stacked, vector_part}
 use Rattle.sf_algebra.specs.Multiples.{negative}
 use Rattle.sf_algebra.specs.Primes.{IsPrime}
 use Rattle.sf_algebra.specs.Rings.{IsRing, IsOverField}
 use Rattle.sf_algebra.specs.Sums.{add}
+use Rattle.sf_algebra.specs.VectorOperations.{vector_difference}
 use Rattle.sf_algebra.specs.Vectors.{Vector, place_cmp, IsVector}
-use Rattle.sf_groebner.specs.Cuts.{part_of, IsFirstBlock}
+use Rattle.sf_groebner.specs.Cuts.{IsFirstBlock}
 use Rattle.sf_groebner.specs.Lifts.{IsLift}
 use Rattle.sf_groebner.specs.MinimalGenerators.{AreMinimal}
 use Rattle.sf_groebner.specs.Presentations.{IsZero, IsRelation, IsReducedByRelations}
@@ -38,11 +39,11 @@ HasReducedCoordinates =
     (generators base relations : Matrix) → IsOverField generators.ring → generators.ring ≡ base.ring → IsMatrix base
     → relations.ring ≡ generators.ring → relations.target ≡ row_degrees generators
     → AreMinimal generators.ring (row_degrees generators) (IsRelation generators (InSpan base)) IsZero relations.rows
-    → (v c : Vector) → IsLift (stacked generators base) v c → IsReducedByRelations relations (part_of 0 (length generators.rows) c)
+    → (v c : Vector) → IsLift (stacked generators base) v c → IsReducedByRelations relations (vector_part 0 (length generators.rows) c)
 
 -- vectors of one degree that are reduced by relations and differ by one of their span are equal
 abbrev pub HasOneReducedVector : Type 0
 HasOneReducedVector =
     (m : Matrix) → IsRing m.ring → IsMatrix m → (v w : Vector) → IsVector m.ring m.target v → IsVector m.ring m.target w → v.degree ≡ w.degree
-    → InSpan m (record { degree = v.degree; terms = add (place_cmp m.ring.weights) m.ring.modulus v.terms (negative m.ring.modulus w.terms) })
+    → InSpan m (vector_difference m.ring v w)
     → IsReducedByRelations m v → IsReducedByRelations m w → v ≡ w

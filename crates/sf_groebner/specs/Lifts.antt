@@ -2,13 +2,13 @@
 use Rattle.std.specs.Prelude.{◌≡◌, List}
 use Rattle.sf_algebra.specs.Matrices.{Matrix}
 use Rattle.sf_algebra.specs.Vectors.{Vector}
-use Rattle.sf_groebner.specs.ReducedBases.{IsReducedBasis, IsReducedBy}
+use Rattle.sf_groebner.specs.ReducedBases.{IsReducedBasis, IsReducedBy, IsSyzygyBasis}
 use Rattle.sf_groebner.specs.Spans.{IsCoefficients, IsSyzygy, combined}
 
 -- c M = v, and no term of c is divided by a lead of the reduced basis of the syzygies
 pub record IsLift (m : Matrix) (v c : Vector) : Type 0 where
   pub syzygies : List Vector
-  pub basis : IsReducedBasis m.ring.weights (IsSyzygy m) syzygies
+  pub basis : IsSyzygyBasis m syzygies
   pub coefficients : IsCoefficients m c
   pub value : combined m c ≡ v
   pub reduced : IsReducedBy syzygies c.terms

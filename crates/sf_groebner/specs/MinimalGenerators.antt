@@ -3,6 +3,7 @@ use Rattle.std.specs.Prelude.{◌≡◌, ◌⊎◌, ℕ, List, [], ◌∷◌, �
 use Rattle.sf_algebra.specs.Matrices.{Matrix}
 use Rattle.sf_algebra.specs.Rings.{Ring}
 use Rattle.sf_algebra.specs.Sums.{add}
+use Rattle.sf_algebra.specs.VectorOperations.{row_sum}
 use Rattle.sf_algebra.specs.Vectors.{Vector, place_cmp}
 use Rattle.sf_groebner.specs.ReducedBases.{IsReducedBasis}
 use Rattle.sf_groebner.specs.Spans.{InSpan}
@@ -15,7 +16,7 @@ pub record IsInSum (m : Matrix) (B : Vector → Type 0) (v : Vector) : Type 0 wh
   pub in_span : InSpan m second
   pub first_degree : first.degree ≡ v.degree
   pub second_degree : second.degree ≡ v.degree
-  pub sum : add (place_cmp m.ring.weights) m.ring.modulus first.terms second.terms ≡ v.terms
+  pub sum : row_sum m.ring first.terms second.terms ≡ v.terms
 
 -- the matrix with these rows over a free module
 abbrev pub matrix_of : Ring → List ℤ → List Vector → Matrix

@@ -14,9 +14,9 @@ pub record IsPlaceBetween (arriving here out beyond : Matrix) : Type 0 where
   pub here_matrix : IsMatrix here
   pub out_matrix : IsMatrix out
   pub beyond_matrix : IsMatrix beyond
-  pub arriving_modulus : arriving.ring ≡ here.ring
-  pub out_modulus : out.ring ≡ here.ring
-  pub beyond_modulus : beyond.ring ≡ here.ring
+  pub arriving_ring : arriving.ring ≡ here.ring
+  pub out_ring : out.ring ≡ here.ring
+  pub beyond_ring : beyond.ring ≡ here.ring
   pub arriving_target : arriving.target ≡ here.target
   pub out_degrees : row_degrees out ≡ here.target
   pub out_target : out.target ≡ beyond.target

@@ -5,7 +5,7 @@ use Rattle.sf_algebra.specs.Matrices.{Matrix, row_degrees, IsMatrix}
 use Rattle.sf_algebra.specs.Rings.{Ring}
 use Rattle.sf_algebra.specs.Vectors.{Vector}
 use Rattle.sf_groebner.specs.MinimalGenerators.{AreMinimal}
-use Rattle.sf_groebner.specs.ReducedBases.{IsReducedBasis, IsReducedBy}
+use Rattle.sf_groebner.specs.ReducedBases.{IsReducedBasis, IsReducedBy, IsSpanBasis}
 use Rattle.sf_groebner.specs.Spans.{InSpan, IsCoefficients, combined}
 
 -- the zero vectors
@@ -19,10 +19,10 @@ pub record IsRelation (generators : Matrix) (B : Vector → Type 0) (c : Vector)
 
 -- generators and relations of N modulo B, a module and a part of it in a free module
 pub record IsPresentation (ring : Ring) (target : List ℤ) (N B : Vector → Type 0) (generators relations : Matrix) : Type 0 where
-  pub generators_modulus : generators.ring ≡ ring
+  pub generators_ring : generators.ring ≡ ring
   pub generators_target : generators.target ≡ target
   pub generators_minimal : AreMinimal ring target N B generators.rows
-  pub relations_modulus : relations.ring ≡ ring
+  pub relations_ring : relations.ring ≡ ring
   pub relations_target : relations.target ≡ row_degrees generators
   pub relations_minimal : AreMinimal ring (row_degrees generators) (IsRelation generators B) IsZero relations.rows
 
@@ -30,8 +30,8 @@ pub record IsPresentation (ring : Ring) (target : List ℤ) (N B : Vector → Ty
 -- sends relations into relations
 pub record IsModuleMap (source target map : Matrix) : Type 0 where
   pub matrix : IsMatrix map
-  pub source_modulus : map.ring ≡ source.ring
-  pub target_modulus : map.ring ≡ target.ring
+  pub source_ring : map.ring ≡ source.ring
+  pub target_ring : map.ring ≡ target.ring
   pub source_degrees : row_degrees map ≡ source.target
   pub target_degrees : map.target ≡ target.target
   pub sends : (v : Vector) → InSpan source v → InSpan target (combined map v)
@@ -39,5 +39,5 @@ pub record IsModuleMap (source target map : Matrix) : Type 0 where
 -- a vector is reduced by the relations: no term is divided by a lead of the reduced basis of their span
 pub record IsReducedByRelations (relations : Matrix) (v : Vector) : Type 0 where
   pub basis : List Vector
-  pub reduced_basis : IsReducedBasis relations.ring.weights (InSpan relations) basis
+  pub reduced_basis : IsSpanBasis relations basis
   pub reduced : IsReducedBy basis v.terms

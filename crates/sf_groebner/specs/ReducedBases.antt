@@ -5,10 +5,12 @@ use Rattle.std.specs.declared.cmp.Ordering.{Ordering}
 use Rattle.std.specs.declared.cmp.Ordering.TheVariants.{Less, Equal}
 use Rattle.std.specs.List.{AllByRecursion, list_any}
 use Rattle.std.specs.Ordering.{int_cmp, ordering_then}
+use Rattle.sf_algebra.specs.Matrices.{Matrix}
 use Rattle.sf_algebra.specs.Rings.{Weights}
 use Rattle.sf_algebra.specs.Terms.{Term}
 use Rattle.sf_algebra.specs.Vectors.{Place, Vector, place_cmp}
 use Rattle.sf_groebner.specs.Leads.{place_divides}
+use Rattle.sf_groebner.specs.Spans.{InSpan, IsSyzygy, IsGraphVector}
 
 -- whether the first term of a list, its lead, divides what stands at k; 0 has no lead
 abbrev pub lead_divides : List (Term Place) → Place → Bool
@@ -57,7 +59,7 @@ abbrev pub IsSorted : Weights → List Vector → Type 0
 IsSorted weights [] = Unit {0}
 IsSorted weights (v ∷ vs) = AllByRecursion (λ (w : Vector). row_cmp weights v w ≡ Less) vs × IsSorted weights vs
 
--- the reduced basis of a module N
+-- the reduced basis of a module N, in the order by these weights
 pub record IsReducedBasis (weights : Weights) (N : Vector → Type 0) (basis : List Vector) : Type 0 where
   -- its vectors are in N
   pub inside : AllByRecursion N basis
@@ -68,3 +70,13 @@ pub record IsReducedBasis (weights : Weights) (N : Vector → Type 0) (basis : L
   -- none of their terms is divided by the lead of another
   pub apart : IsApart basis
   pub sorted : IsSorted weights basis
+
+-- the reduced bases of the span, the syzygies and the graph of a matrix
+abbrev pub IsSpanBasis : Matrix → List Vector → Type 0
+IsSpanBasis m basis = IsReducedBasis m.ring.weights (InSpan m) basis
+
+abbrev pub IsSyzygyBasis : Matrix → List Vector → Type 0
+IsSyzygyBasis m basis = IsReducedBasis m.ring.weights (IsSyzygy m) basis
+
+abbrev pub IsGraphBasis : Matrix → List Vector → Type 0
+IsGraphBasis m basis = IsReducedBasis m.ring.weights (IsGraphVector m) basis

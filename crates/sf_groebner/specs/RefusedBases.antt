@@ -17,8 +17,8 @@ IsInside vs = AllByRecursion (InSpan quadrics) vs
 abbrev pub AreMonic : List Vector → Type 0
 AreMonic vs = AllByRecursion (λ (v : Vector). IsMonic v.terms) vs
 
-abbrev pub IsComplete : List Vector → Type 0
-IsComplete vs = (v : Vector) → InSpan quadrics v → HasDividedLead vs v.terms
+abbrev pub HasCompleteLeads : List Vector → Type 0
+HasCompleteLeads vs = (v : Vector) → InSpan quadrics v → HasDividedLead vs v.terms
 
 -- x^2 + x y + y^2 has the lead x y of a later row
 abbrev pub later_lead_in_tail : List Vector
@@ -26,7 +26,7 @@ later_lead_in_tail = vector 2 (term 1 0 (2 ∷ []) ∷ term 1 0 (1 ∷ 1 ∷ [])
 
 abbrev pub RefusesLaterLeadInTail : Type 0
 RefusesLaterLeadInTail =
-    IsRefused later_lead_in_tail × IsInside later_lead_in_tail × AreMonic later_lead_in_tail × IsComplete later_lead_in_tail × IsSorted ones later_lead_in_tail
+    IsRefused later_lead_in_tail × IsInside later_lead_in_tail × AreMonic later_lead_in_tail × HasCompleteLeads later_lead_in_tail × IsSorted ones later_lead_in_tail
 
 -- y^3 + x^2 z has a multiple of the lead x^2 of an earlier row
 abbrev pub earlier_lead_in_tail : List Vector
@@ -34,28 +34,28 @@ earlier_lead_in_tail = first_row ∷ second_row ∷ vector 3 (term 1 0 (0 ∷ 3 
 
 abbrev pub RefusesEarlierLeadInTail : Type 0
 RefusesEarlierLeadInTail =
-    IsRefused earlier_lead_in_tail × IsInside earlier_lead_in_tail × AreMonic earlier_lead_in_tail × IsComplete earlier_lead_in_tail × IsSorted ones earlier_lead_in_tail
+    IsRefused earlier_lead_in_tail × IsInside earlier_lead_in_tail × AreMonic earlier_lead_in_tail × HasCompleteLeads earlier_lead_in_tail × IsSorted ones earlier_lead_in_tail
 
 -- x y and y^2 aren't in the span
 abbrev pub outside_rows : List Vector
 outside_rows = first_row ∷ vector 2 (term 1 0 (1 ∷ 1 ∷ []) ∷ []) ∷ vector 2 (term 1 0 (0 ∷ 2 ∷ []) ∷ []) ∷ []
 
 abbrev pub RefusesOutsideRows : Type 0
-RefusesOutsideRows = IsRefused outside_rows × AreMonic outside_rows × IsComplete outside_rows × IsApart outside_rows × IsSorted ones outside_rows
+RefusesOutsideRows = IsRefused outside_rows × AreMonic outside_rows × HasCompleteLeads outside_rows × IsApart outside_rows × IsSorted ones outside_rows
 
 -- a coefficient 2 leads the second row
 abbrev pub doubled_row : List Vector
 doubled_row = first_row ∷ vector 2 (term 2 0 (1 ∷ 1 ∷ []) ∷ term 2 0 (0 ∷ 2 ∷ []) ∷ []) ∷ third_row ∷ []
 
 abbrev pub RefusesDoubledRow : Type 0
-RefusesDoubledRow = IsRefused doubled_row × IsInside doubled_row × IsComplete doubled_row × IsApart doubled_row × IsSorted ones doubled_row
+RefusesDoubledRow = IsRefused doubled_row × IsInside doubled_row × HasCompleteLeads doubled_row × IsApart doubled_row × IsSorted ones doubled_row
 
 -- a row is 0
 abbrev pub with_zero : List Vector
 with_zero = first_row ∷ second_row ∷ third_row ∷ vector 4 [] ∷ []
 
 abbrev pub RefusesZero : Type 0
-RefusesZero = IsRefused with_zero × IsInside with_zero × IsComplete with_zero × IsApart with_zero × IsSorted ones with_zero
+RefusesZero = IsRefused with_zero × IsInside with_zero × HasCompleteLeads with_zero × IsApart with_zero × IsSorted ones with_zero
 
 -- y^3 is wanting
 abbrev pub without_third_row : List Vector
@@ -70,7 +70,7 @@ smaller_lead_first = second_row ∷ first_row ∷ third_row ∷ []
 
 abbrev pub RefusesSmallerLeadFirst : Type 0
 RefusesSmallerLeadFirst =
-    IsRefused smaller_lead_first × IsInside smaller_lead_first × AreMonic smaller_lead_first × IsComplete smaller_lead_first × IsApart smaller_lead_first
+    IsRefused smaller_lead_first × IsInside smaller_lead_first × AreMonic smaller_lead_first × HasCompleteLeads smaller_lead_first × IsApart smaller_lead_first
 
 -- the greater degree comes first
 abbrev pub greater_degree_first : List Vector
@@ -78,4 +78,4 @@ greater_degree_first = third_row ∷ first_row ∷ second_row ∷ []
 
 abbrev pub RefusesGreaterDegreeFirst : Type 0
 RefusesGreaterDegreeFirst =
-    IsRefused greater_degree_first × IsInside greater_degree_first × AreMonic greater_degree_first × IsComplete greater_degree_first × IsApart greater_degree_first
+    IsRefused greater_degree_first × IsInside greater_degree_first × AreMonic greater_degree_first × HasCompleteLeads greater_degree_first × IsApart greater_degree_first

@@ -6,7 +6,7 @@ use Rattle.sf_algebra.specs.Monomials.{monomial_degree}
 use Rattle.sf_algebra.specs.Rings.{Weights}
 use Rattle.sf_algebra.specs.Terms.{Term}
 use Rattle.sf_algebra.specs.Vectors.{Place, Vector}
-use Rattle.sf_groebner.specs.ReducedBases.{IsReducedBasis}
+use Rattle.sf_groebner.specs.ReducedBases.{IsReducedBasis, IsSpanBasis, IsGraphBasis}
 use Rattle.sf_groebner.specs.Spans.{InSpan, IsGraphVector}
 
 -- the greatest number of rows, of columns and of elements of a basis
@@ -37,7 +37,7 @@ pub record HasSmallSize (m : Matrix) : Type 0 where
 -- m is small for a limit, by the reduced basis of its graph
 pub record IsSmall (limit : ℕ) (m : Matrix) (basis : List Vector) : Type 0 where
   pub size : HasSmallSize m
-  pub reduced : IsReducedBasis m.ring.weights (IsGraphVector m) basis
+  pub reduced : IsGraphBasis m basis
   pub within : IsWithinLimit m.ring.weights limit basis
 
 -- m is small for no basis
@@ -46,6 +46,6 @@ IsLarge limit m = (basis : List Vector) → IsSmall limit m basis → ⊥
 
 -- a matrix whose rows are the reduced basis of their own span and within the limit
 pub record IsSmallReducedBasis (limit : ℕ) (m : Matrix) : Type 0 where
-  pub reduced : IsReducedBasis m.ring.weights (InSpan m) m.rows
+  pub reduced : IsSpanBasis m m.rows
   pub columns : length m.target ≤ GREATEST_SIZE
   pub within : IsWithinLimit m.ring.weights limit m.rows

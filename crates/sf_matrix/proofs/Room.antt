@@ -33,8 +33,8 @@ CombinationFits-homogeneous ring positive degrees rows v h k bound =
 
 -- a row of a matrix times a matrix that goes on from its target
 pub CombinationFits-matrices : (a b : Matrix) → IsPositive a.ring.weights → b.ring ≡ a.ring → row_degrees b ≡ a.target → IsMatrix b → (v : Vector) → IsVector a.ring a.target v → DegreeFits b.target v.degree → CombinationFits (row_at b.rows) v.terms
-CombinationFits-matrices a b positive moduli meet h v k bound =
-    CombinationFits-homogeneous a.ring positive b.target b.rows v (subst (λ q. AllByRecursion (IsVector q b.target) b.rows) moduli h) (subst (λ ds. IsVector a.ring ds v) (sym meet) k) bound
+CombinationFits-matrices a b positive rings meet h v k bound =
+    CombinationFits-homogeneous a.ring positive b.target b.rows v (subst (λ q. AllByRecursion (IsVector q b.target) b.rows) rings h) (subst (λ ds. IsVector a.ring ds v) (sym meet) k) bound
 
 -- the coefficients of the rows of a matrix
 pub residues-rows : (p : ℕ) (m : Matrix) → IsMatrix m → m.ring.modulus ≡ p → AllByRecursion (λ (v : Vector). AllByRecursion (IsNonzeroResidue p) v.terms) m.rows

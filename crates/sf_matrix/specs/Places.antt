@@ -1,6 +1,6 @@
 -- Where a term stands, and the term, written by its generator, its monomial and its coefficient.
 use Rattle.std.specs.Prelude.{ℕ, ◌+ℤ◌}
-use Rattle.sf_algebra.specs.MatrixOperations.{kronecker_terms, part_terms}
+use Rattle.sf_algebra.specs.MatrixOperations.{kronecker_terms, part_terms, vector_part}
 use Rattle.sf_algebra.specs.Monomials.{Monomial}
 use Rattle.sf_algebra.specs.Rings.{Ring}
 use Rattle.sf_algebra.specs.Terms.{Term}
@@ -21,7 +21,3 @@ factor_of t = record { at = t.at.monomial; coefficient = t.coefficient }
 -- the tensor product of a vector with a vector over n columns
 abbrev pub kronecker_vector : Ring → ℕ → Vector → Vector → Vector
 kronecker_vector ring n v w = record { degree = v.degree +ℤ w.degree; terms = kronecker_terms ring n v.terms w.terms }
-
--- the terms of a vector at the positions from `from` to before `to`, counted from `from`
-abbrev pub vector_between : ℕ → ℕ → Vector → Vector
-vector_between from to v = record { degree = v.degree; terms = part_terms from to v.terms }

@@ -10,7 +10,7 @@ pub fn equal_vectors()
     ensures { DecidesEquality ⟦<Vector as PartialEq>⟧.eq }
 {}
 
-/// `==` of matrices is true exactly where their moduli, their targets and their rows with degrees are equal.
+/// `==` of matrices is true exactly where their rings, their targets and their rows with degrees are equal.
 pub fn equal_matrices()
     ensures { DecidesEquality ⟦<Matrix as PartialEq>⟧.eq }
 {}

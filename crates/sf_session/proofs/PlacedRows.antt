@@ -6,7 +6,7 @@ use Rattle.std.proofs.lemmas.Bool.Decides.{Decides-int_eq}
 use Rattle.sf_algebra.specs.Rings.{plain, ones}
 use Rattle.sf_algebra.specs.Sums.{normal}
 use Rattle.sf_algebra.specs.Terms.{Term, IsCanonical}
-use Rattle.sf_algebra.specs.Vectors.{Place, place_cmp, term_degree, IsHomogeneous, IsVector}
+use Rattle.sf_algebra.specs.Vectors.{Place, place_cmp, place_degree, IsHomogeneous, IsVector}
 use Rattle.sf_algebra.proofs.Lists.{AllByRecursion-append}
 use Rattle.sf_algebra.proofs.Normal.{EachPlace, EachPlace-normal}
 use Rattle.sf_session.specs.Raw.{RawTerm}
@@ -30,15 +30,15 @@ placed_terms-columns ring column n (entry ∷ entries) e =
 
 -- terms that pass the test of their degree
 IsHomogeneous-tested : (degrees : List ℤ) (d : ℤ) (ts : List (Term Place)) → IsBeforeColumn (length degrees) ts
-    → list_all (λ t. int_eq (term_degree ones degrees t) d) ts ≡ true → IsHomogeneous ones degrees d ts
+    → list_all (λ t. int_eq (place_degree ones degrees t.at) d) ts ≡ true → IsHomogeneous ones degrees d ts
 IsHomogeneous-tested degrees d [] h e = tt
 IsHomogeneous-tested degrees d (t ∷ ts) h e =
-    let both = &&-true (int_eq (term_degree ones degrees t) d) (list_all (λ u. int_eq (term_degree ones degrees u) d) ts) e in
-    ((h.0, sym ((Decides-int_eq (term_degree ones degrees t) d).0 both.0)), IsHomogeneous-tested degrees d ts h.1 both.1)
+    let both = &&-true (int_eq (place_degree ones degrees t.at) d) (list_all (λ u. int_eq (place_degree ones degrees u.at) d) ts) e in
+    ((h.0, sym ((Decides-int_eq (place_degree ones degrees t.at) d).0 both.0)), IsHomogeneous-tested degrees d ts h.1 both.1)
 
 -- terms of one degree make a homogeneous vector
 pub IsVector-tested : (p : ℕ) (degrees : List ℤ) (d : ℤ) (ts us : List (Term Place)) → us ≡ normal (place_cmp ones) p ts → IsCanonical (place_cmp ones) p us → IsBeforeColumn (length degrees) ts
-    → list_all (λ t. int_eq (term_degree ones degrees t) d) us ≡ true → IsVector (plain p) degrees (record { degree = d; terms = us })
+    → list_all (λ t. int_eq (place_degree ones degrees t.at) d) us ≡ true → IsVector (plain p) degrees (record { degree = d; terms = us })
 IsVector-tested p degrees d ts us sum canonical columns tested =
     let kept = EachPlace-normal (λ (k : Place). k.position < length degrees) (place_cmp ones) p ts columns in
     record { canonical = canonical; homogeneous = IsHomogeneous-tested degrees d us (subst (IsBeforeColumn (length degrees)) (sym sum) kept) tested }

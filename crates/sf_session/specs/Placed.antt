@@ -7,7 +7,7 @@ use Rattle.sf_algebra.specs.Residues.{negative_mod}
 use Rattle.sf_algebra.specs.Monomials.{Monomial, from_exponents}
 use Rattle.sf_algebra.specs.Rings.{plain, ones}
 use Rattle.sf_algebra.specs.Terms.{Term}
-use Rattle.sf_algebra.specs.Vectors.{Place, Vector, place_cmp, term_degree, row_degree}
+use Rattle.sf_algebra.specs.Vectors.{Place, Vector, place_cmp, place_degree, row_degree}
 use Rattle.sf_algebra.specs.Matrices.{Matrix}
 use Rattle.sf_algebra.specs.Sums.{normal}
 use Rattle.sf_session.specs.State.{is_among}
@@ -58,7 +58,7 @@ has_shape columns = list_all (λ (row : List (List RawTerm)). length row == colu
 
 -- all terms of a vector have its degree
 abbrev pub is_homogeneous : List ℤ → Vector → Bool
-is_homogeneous degrees v = list_all (λ t. int_eq (term_degree ones degrees t) v.degree) v.terms
+is_homogeneous degrees v = list_all (λ t. int_eq (place_degree ones degrees t.at) v.degree) v.terms
 
 -- the number of the first row that isn't homogeneous, where the first of these rows has this number
 abbrev pub first_fault : ℕ → List ℤ → List Vector → Option ℕ

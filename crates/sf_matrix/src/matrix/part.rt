@@ -1,6 +1,5 @@
 ghost use Rattle.std.specs.Prelude.{◌≡◌, ◌≤◌, length, map, IfOk};
-ghost use Rattle.sf_algebra.specs.MatrixOperations.{part_terms, part};
-ghost use Rattle.sf_matrix.specs.Places.{vector_between};
+ghost use Rattle.sf_algebra.specs.MatrixOperations.{part_terms, part, vector_part};
 
 use crate::free::Free;
 use crate::list::List;
@@ -42,7 +41,7 @@ fn rows_between(
     to: u64,
     rows: &[Vector],
 ) -> Result<Vec<Vector>, OutOfMemory>
-    ensures { IfOk result (λ v. v.items ≡ map (vector_between from to) rows.now) }
+    ensures { IfOk result (λ v. v.items ≡ map (vector_part from to) rows.now) }
 {
     let mut between = Vec::with_capacity(alloc, rows.len())?;
     for row in rows {
@@ -53,7 +52,7 @@ fn rows_between(
 
 /// A row's terms at these positions.
 fn vector_between(alloc: Global, from: u64, to: u64, row: &Vector) -> Result<Vector, OutOfMemory>
-    ensures { IfOk result (λ v. v ≡ vector_between from to row.now) }
+    ensures { IfOk result (λ v. v ≡ vector_part from to row.now) }
 {
     let terms = terms_between(alloc, from, to, &row.terms)?;
     Ok(Vector {

@@ -2,7 +2,7 @@ ghost use Rattle.std.specs.Prelude.{◌≡◌, ◌≤◌, ◌++◌, length, map,
 ghost use Rattle.std.specs.List.{list_all};
 ghost use Rattle.std.specs.Ordering.{int_eq};
 ghost use Rattle.sf_algebra.specs.Rings.{plain, ones};
-ghost use Rattle.sf_algebra.specs.Vectors.{IsVector, generator_degree, term_degree, row_degree};
+ghost use Rattle.sf_algebra.specs.Vectors.{IsVector, generator_degree, place_degree, row_degree};
 ghost use Rattle.sf_session.specs.Placed.{placed_term, placed_terms, row_vector, is_homogeneous, is_written_degree};
 
 use super::term::placed_term;
@@ -81,7 +81,7 @@ fn row_degree(degrees: &[i32], terms: &[Term]) -> i32
 /// Whether all terms have this degree.
 fn have_degree(degrees: &[i32], degree: i32, terms: &[Term]) -> bool
     requires written { IsTrue (list_all is_written_degree degrees.now) }
-    ensures { result ≡ list_all (λ t. int_eq (term_degree ones degrees.now t) degree) terms.now }
+    ensures { result ≡ list_all (λ t. int_eq (place_degree ones degrees.now t.at) degree) terms.now }
 {
     terms
         .iter()
@@ -91,7 +91,7 @@ fn have_degree(degrees: &[i32], degree: i32, terms: &[Term]) -> bool
 /// The degree of a term: that of its generator and the sum of its exponents.
 fn term_degree(degrees: &[i32], term: &Term) -> i32
     requires written { IsTrue (list_all is_written_degree degrees.now) }
-    ensures { result ≡ term_degree ones degrees.now term.now }
+    ensures { result ≡ place_degree ones degrees.now term.now.at }
 {
     generator_degree(degrees, term.position as usize) + term.monomial.sum() as i32
 }

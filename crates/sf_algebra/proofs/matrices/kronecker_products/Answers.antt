@@ -8,7 +8,7 @@ use Rattle.sf_algebra.proofs.matrices.kronecker_products.Goals as goal
 
 pub returns : goal.returns
 returns c = record {
-  matrices = λ a b positive moduli h k. (IsMatrix-kronecker a b positive moduli h k, row_degrees-kronecker a b);
+  matrices = λ a b positive rings h k. (IsMatrix-kronecker a b positive rings h k, row_degrees-kronecker a b);
   entries = entry-kronecker;
   first_identity = row_at-kronecker_identity_first;
   second_identity = entry-kronecker_identity;

@@ -5,7 +5,7 @@ use Rattle.sf_algebra.proofs.matrices.matrix_stacks.Goals as goal
 
 pub returns : goal.returns
 returns c = record {
-  matrices = λ a b moduli targets h k. (IsMatrix-stacked a b moduli targets h k, row_degrees-stacked a b);
+  matrices = λ a b rings targets h k. (IsMatrix-stacked a b rings targets h k, row_degrees-stacked a b);
   first_rows = part-stacked_first;
   last_rows = part-stacked_second;
   parts = stacked-parts;

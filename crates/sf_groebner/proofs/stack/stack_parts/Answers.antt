@@ -9,5 +9,5 @@ use Rattle.std.proofs.Common.{length}
 pub returns : goal.returns
 returns c = record {
   basis = λ a b positive. reduced-first_parts a.ring (row_degrees (stacked a b)) (IsSyzygy (stacked a b)) (λ w h. h.coefficients) (length a.rows);
-  relations = λ a b positive moduli v. IsRelation-blocks a b positive moduli v;
+  relations = λ a b positive rings v. IsRelation-blocks a b positive rings v;
 }

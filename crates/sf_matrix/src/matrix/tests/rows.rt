@@ -57,7 +57,7 @@ fn negatives(rt: HostRuntime) -> Result<(), Fail> {
 }
 
 /// Rows from the first number to before the second, and columns from the third to before the fourth.
-fn part_of(alloc: Global, m: &Matrix, bounds: [usize; 4]) -> Result<Matrix, Fail> {
+fn vector_part(alloc: Global, m: &Matrix, bounds: [usize; 4]) -> Result<Matrix, Fail> {
     let [r0, r1, c0, c1] = bounds;
     want(r0 <= r1 && r1 <= m.rows(), "rows")?;
     want(c0 <= c1 && c1 <= m.cols(), "columns")?;
@@ -96,7 +96,7 @@ fn parts(rt: HostRuntime) -> Result<(), Fail> {
     ];
     for (bounds, [degrees, target], entries) in table {
         let part = matrix_of(alloc, modulus, degrees, target, entries)?;
-        assert_eq!(rt; part_of(alloc, &matrix, bounds)?, part);
+        assert_eq!(rt; vector_part(alloc, &matrix, bounds)?, part);
     }
     Ok(())
 }
@@ -119,7 +119,7 @@ fn equal_and_different_matrices(rt: HostRuntime) -> Result<(), Fail> {
     let alloc = rt.alloc();
     let zero = matrix_of(alloc, modulus_of(7)?, &[1], &[0], &[])?;
     assert_eq!(rt; zero.copy(alloc)?, zero);
-    // moduli, degrees of the rows and of the columns, and terms, of matrices other than that
+    // rings, degrees of the rows and of the columns, and terms, of matrices other than that
     let table: [(u64, [&[i32]; 2], &[Entry]); 6] = [
         (5, [&[1], &[0]], &[]),
         (7, [&[2], &[0]], &[]),

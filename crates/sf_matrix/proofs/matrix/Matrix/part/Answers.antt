@@ -1,8 +1,7 @@
 use Rattle.std.proofs.Common.{ap, subst, map, slice_range, ◌∙◌}
 use Rattle.sf_algebra.specs.Matrices.{IsMatrix}
-use Rattle.sf_algebra.specs.MatrixOperations.{part}
+use Rattle.sf_algebra.specs.MatrixOperations.{part, vector_part}
 use Rattle.sf_algebra.proofs.Parts.{IsMatrix-part}
-use Rattle.sf_matrix.specs.Places.{vector_between}
 use Rattle.sf_matrix.proofs.Assembled.{IsMatrix-assembled}
 use Rattle.sf_matrix.proofs.matrix.Matrix.part.Goals as goal
 
@@ -18,4 +17,4 @@ invariant_of-result c =
     IsMatrix-assembled (part r0 r1 c0 c1 m) (IsMatrix-part r0 r1 c0 c1 m (subst IsMatrix c.self.view_is c.self.invariant)) _ _ _
     (ap (λ k. k.ring) c.self.view_is)
     (c.in_ok-degrees.ensures.items ∙ ap (λ ds. slice_range ds c0 c1) degrees)
-    (c.in_ok-rows.ensures ∙ ap (λ vs. map (vector_between c0 c1) (slice_range vs r0 r1)) rows)
+    (c.in_ok-rows.ensures ∙ ap (λ vs. map (vector_part c0 c1) (slice_range vs r0 r1)) rows)

@@ -41,7 +41,7 @@ invariant_of-result c =
     let m = c.args.self.now in
     let n = c.args.next.now in
     let whole = subst (λ vs. length vs ≤ c.loop-row.row-index) (c.deref-row-items.ensures.value ∙ ap (λ k. k.rows) c.self.view_is) c.loop-row-test.false in
-    let matrix = IsMatrix-matrix_product m n (record { positive = subst (λ p. 0 < p) (ap (λ k. k.ring.modulus) c.self.view_is) c.facts.ensures.positive; moduli = sym c.requires.ring; degrees = c.requires.meet }) (subst IsMatrix c.self.view_is c.self.invariant) (subst IsMatrix c.next.view_is c.next.invariant) in
+    let matrix = IsMatrix-matrix_product m n (record { positive = subst (λ p. 0 < p) (ap (λ k. k.ring.modulus) c.self.view_is) c.facts.ensures.positive; rings = sym c.requires.ring; degrees = c.requires.meet }) (subst IsMatrix c.self.view_is c.self.invariant) (subst IsMatrix c.next.view_is c.next.invariant) in
     IsMatrix-assembled (matrix_product m n) matrix _ _ _
     (ap (λ k. k.ring) c.self.view_is)
     (ap (λ f. f.degrees) c.in_ok-copy.ensures.equal ∙ ap (λ k. k.target) c.next.view_is)
