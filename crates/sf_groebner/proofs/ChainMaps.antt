@@ -14,7 +14,7 @@ use Rattle.sf_groebner.proofs.Squares.{IsVector-combined, IsCanonical-combined, 
 
 module _ (ring : Ring) (positive : IsRing ring) (m : Matrix) (same_ring : m.ring ≡ ring) where
   IsCanonical-span : (v : Vector) → InSpan m v → IsCanonicalRow ring v.terms
-  IsCanonical-span v h = subst (λ (x : Vector). IsCanonicalRow ring x.terms) h.2 (IsCanonical-combined ring positive m same_ring h.0)
+  IsCanonical-span v h = subst (λ (x : Vector). IsCanonicalRow ring x.terms) h.value (IsCanonical-combined ring positive m same_ring h.coefficients)
 
   IsCanonical-cycle : (beyond : Matrix) (c : Vector) → IsCycle m beyond c → IsCanonicalRow ring c.terms
   IsCanonical-cycle beyond c h = subst (λ q. IsCanonicalRow q c.terms) same_ring h.coefficients.canonical

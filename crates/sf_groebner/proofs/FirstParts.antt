@@ -7,7 +7,7 @@ use Rattle.sf_algebra.specs.Terms.{Term, IsDescending}
 use Rattle.sf_algebra.specs.VectorOperations.{vector_difference}
 use Rattle.sf_algebra.specs.Vectors.{Place, Vector, place_cmp, IsVector}
 use Rattle.sf_algebra.proofs.PartTerms.{IsVector-part_terms}
-use Rattle.sf_groebner.specs.Cuts.{has_terms, has_first_part, first_parts, last_parts}
+use Rattle.sf_groebner.specs.Cuts.{has_terms, has_first_part, first_parts, last_parts, IsFirstPart}
 use Rattle.sf_groebner.specs.ReducedBases.{IsReducedBasis}
 use Rattle.sf_groebner.proofs.Modules.{IsModuleLike}
 use Rattle.sf_groebner.proofs.PartSums.{part_terms-difference}
@@ -18,31 +18,27 @@ module _ (ring : Ring) (degrees : List ℤ) (N : Vector → Type 0) (vectors : (
   descending : (w : Vector) → N w → (t : Term Place) (ts : List (Term Place)) → w.terms ≡ t ∷ ts → IsDescending (place_cmp ring.weights) (t ∷ ts)
   descending w h t ts e = subst (IsDescending (place_cmp ring.weights)) e (vectors w h).canonical.descending
 
-  -- v is the part of a vector of the module at the first n positions
-  abbrev pub IsFirstPart : Vector → Type 0
-  IsFirstPart v = (w : Vector) × N w × (vector_part 0 n w ≡ v)
-
-  pub first_part : IsPart 0 n (has_first_part n) N IsFirstPart
+  pub first_part : IsPart 0 n (has_first_part n) N (IsFirstPart n N)
   first_part = record {
     kept = λ w h k t ts e. (omega arith, has_terms-position n t ts ring.weights (descending w h t ts e) (sym (ap (λ us. has_terms (part_terms 0 n us)) e) ∙ k));
     keeps = λ w h t ts e between. ap (λ us. has_terms (part_terms 0 n us)) e ∙ has_terms-first n t ts between.1;
-    inside = λ w h k. (w, h, refl);
-    lifted = λ v h t ts e. (h.0, h.1, ap (λ (x : Vector). has_terms x.terms) h.2 ∙ ap has_terms e, h.2);
+    inside = λ w h k. record { whole = w; inside = h; part = refl };
+    lifted = λ v h t ts e. (h.whole, h.inside, ap (λ (x : Vector). has_terms x.terms) h.part ∙ ap has_terms e, h.part);
   }
 
   -- the nonzero first parts of the elements are the reduced basis of the first parts of all vectors
-  pub reduced-first_parts : (basis : List Vector) → IsReducedBasis ring.weights N basis → IsReducedBasis ring.weights IsFirstPart (first_parts n basis)
-  reduced-first_parts basis h = reduced_part 0 n (has_first_part n) N IsFirstPart first_part ring.weights basis h
+  pub reduced-first_parts : (basis : List Vector) → IsReducedBasis ring.weights N basis → IsReducedBasis ring.weights (IsFirstPart n N) (first_parts n basis)
+  reduced-first_parts basis h = reduced_part 0 n (has_first_part n) N (IsFirstPart n N) first_part ring.weights basis h
 
   -- differences of first parts are first parts
-  pub first_part_module : IsRing ring → ((u v : Vector) → N u → N v → u.degree ≡ v.degree → N (vector_difference ring u v)) → IsModuleLike ring (slice_range degrees 0 n) IsFirstPart
+  pub first_part_module : IsRing ring → ((u v : Vector) → N u → N v → u.degree ≡ v.degree → N (vector_difference ring u v)) → IsModuleLike ring (slice_range degrees 0 n) (IsFirstPart n N)
   first_part_module positive differences = record {
-    vectors = λ v h. subst (IsVector ring (slice_range degrees 0 n)) h.2 (IsVector-part_terms ring degrees 0 n h.0 (vectors h.0 h.1));
-    differences = λ u v h k e. (
-      vector_difference ring h.0 k.0,
-      differences h.0 k.0 h.1 k.1 (ap (λ x. x.degree) h.2 ∙ e ∙ sym (ap (λ x. x.degree) k.2)),
-      (λ i. record { degree = h.0.degree; terms = part_terms-difference ring 0 n positive h.0.terms k.0.terms i }) ∙ (λ i. vector_difference ring (h.2 i) (k.2 i)),
-    );
+    vectors = λ v h. subst (IsVector ring (slice_range degrees 0 n)) h.part (IsVector-part_terms ring degrees 0 n h.whole (vectors h.whole h.inside));
+    differences = λ u v h k e. record {
+      whole = vector_difference ring h.whole k.whole;
+      inside = differences h.whole k.whole h.inside k.inside (ap (λ x. x.degree) h.part ∙ e ∙ sym (ap (λ x. x.degree) k.part));
+      part = (λ i. record { degree = h.whole.degree; terms = part_terms-difference ring 0 n positive h.whole.terms k.whole.terms i }) ∙ (λ i. vector_difference ring (h.part i) (k.part i));
+    };
   }
 
   -- v is the part behind, of a vector of the module that has no term at the first n positions

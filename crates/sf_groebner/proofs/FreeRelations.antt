@@ -19,7 +19,7 @@ pub row_combination-no_rows : (ring : Ring) → IsRing ring → (c : List (Term 
 row_combination-no_rows ring positive c = combination-no_rows (place_keys ring.weights) ring.modulus positive.modulus (λ (k : Place). k.monomial) c
 
 pub span-no_rows : (ring : Ring) → IsRing ring → (target : List ℤ) (v : Vector) → InSpan (matrix_of ring target []) v → v.terms ≡ []
-span-no_rows ring positive target v h = sym (ap (λ (w : Vector). w.terms) h.2) ∙ row_combination-no_rows ring positive h.0.terms
+span-no_rows ring positive target v h = sym (ap (λ (w : Vector). w.terms) h.value) ∙ row_combination-no_rows ring positive h.coefficients.terms
 
 no_lead : (ts : List (Term Place)) → IsWithin 0 ts → HasDividedLead [] ts
 no_lead [] h = tt
@@ -39,11 +39,11 @@ module _ (m : Matrix) (positive : IsRing m.ring) (target : List ℤ) where
   relation_from_syzygy : (c : Vector) → IsSyzygy m c → IsRelation m (InSpan (matrix_of m.ring target [])) c
   relation_from_syzygy c h = record {
     coefficients = h.coefficients;
-    inside = (
-      record { degree = c.degree; terms = [] },
-      record { canonical = record { descending = tt; residues = tt }; homogeneous = tt },
-      λ i. record { degree = c.degree; terms = (row_combination-no_rows m.ring positive [] ∙ sym h.zero) i },
-    );
+    inside = record {
+      coefficients = record { degree = c.degree; terms = [] };
+      homogeneous = record { canonical = record { descending = tt; residues = tt }; homogeneous = tt };
+      value = λ i. record { degree = c.degree; terms = (row_combination-no_rows m.ring positive [] ∙ sym h.zero) i };
+    };
   }
 
   syzygy_from_relation : (c : Vector) → IsRelation m (InSpan (matrix_of m.ring target [])) c → IsSyzygy m c

@@ -9,7 +9,7 @@ use Rattle.sf_algebra.proofs.Lists.{AllByRecursion-weaken}
 use Rattle.sf_algebra.proofs.MatrixRows.{IsWithin}
 use Rattle.sf_algebra.proofs.PartTerms.{IsVector-part_terms}
 use Rattle.sf_algebra.proofs.Ranges.{slice_range-second}
-use Rattle.sf_groebner.specs.Cuts.{first_parts, last_parts}
+use Rattle.sf_groebner.specs.Cuts.{first_parts, last_parts, IsFirstPart}
 use Rattle.sf_groebner.specs.ReducedBases.{IsReducedBasis, IsSpanBasis, IsSyzygyBasis, IsGraphBasis}
 use Rattle.sf_groebner.specs.Spans.{IsCoefficients, combined, InSpan, IsSyzygy, graph_degrees, value_terms, coefficient_terms, IsGraphVector}
 use Rattle.sf_groebner.proofs.FirstParts.{reduced-first_parts, reduced-last_parts}
@@ -61,15 +61,19 @@ module _ (m : Matrix) where
     }
 
     abbrev IsValuePart : Vector → Type 0
-    IsValuePart v = (w : Vector) × IsGraphVector m w × (vector_part 0 (length m.target) w ≡ v)
+    IsValuePart = IsFirstPart (length m.target) (IsGraphVector m)
 
     span_from_part : (v : Vector) → IsValuePart v → InSpan m v
-    span_from_part v h = (vector_part (length m.target) (length m.target + length m.rows) h.0, graph_coefficients h.0 h.1, graph_value h.0 h.1 ∙ h.2)
+    span_from_part v h = record { coefficients = vector_part (length m.target) (length m.target + length m.rows) h.whole; homogeneous = graph_coefficients h.whole h.inside; value = graph_value h.whole h.inside ∙ h.part }
 
     part_from_span : IsMatrix m → (v : Vector) → InSpan m v → IsValuePart v
     part_from_span matrix v h =
-        let value : IsValue h.0 = subst (IsVector m.ring m.target) (sym h.2) ((span_module m positive matrix).vectors v h) in
-        (graph_of h.0, IsGraphVector-graph_of h.0 value h.1, (λ i. record { degree = h.0.degree; terms = graph_of-first h.0 value i }) ∙ h.2)
+        let value : IsValue h.coefficients = subst (IsVector m.ring m.target) (sym h.value) ((span_module m positive matrix).vectors v h) in
+        record {
+          whole = graph_of h.coefficients;
+          inside = IsGraphVector-graph_of h.coefficients value h.homogeneous;
+          part = (λ i. record { degree = h.coefficients.degree; terms = graph_of-first h.coefficients value i }) ∙ h.value;
+        }
 
     -- the value parts of the rows of the graph's reduced basis
     pub reduced-span : IsMatrix m → (basis : List Vector) → IsGraphBasis m basis → IsSpanBasis m (first_parts (length m.target) basis)

@@ -34,14 +34,14 @@ module _ (ring : Ring) (target : List ℤ) (B : Vector → Type 0) where
 
   pub IsSumAt-from : (rows : List Vector) (v : Vector) → IsInSum (matrix_of ring target rows) B v → IsSumAt rows v.degree v.terms
   IsSumAt-from rows v h =
-      let c = (h.in_span).0 in
-      let degree : c.degree ≡ v.degree = ap (λ x. x.degree) (h.in_span).2 ∙ h.second_degree in
+      let c = (h.in_span).coefficients in
+      let degree : c.degree ≡ v.degree = ap (λ x. x.degree) (h.in_span).value ∙ h.second_degree in
       record {
         first = h.first.terms;
         coefficients = c.terms;
         inside = subst (λ d. B (record { degree = d; terms = h.first.terms })) h.first_degree h.in_module;
-        vector = subst (λ d. IsVector ring (degrees_of rows) (record { degree = d; terms = c.terms })) degree (h.in_span).1;
-        sum = ap (λ x. row_sum ring h.first.terms x.terms) (h.in_span).2 ∙ h.sum;
+        vector = subst (λ d. IsVector ring (degrees_of rows) (record { degree = d; terms = c.terms })) degree (h.in_span).homogeneous;
+        sum = ap (λ x. row_sum ring h.first.terms x.terms) (h.in_span).value ∙ h.sum;
       }
 
   pub IsSumAt-to : (rows : List Vector) (v : Vector) → IsSumAt rows v.degree v.terms → IsInSum (matrix_of ring target rows) B v
@@ -49,7 +49,7 @@ module _ (ring : Ring) (target : List ℤ) (B : Vector → Type 0) where
     first = record { degree = v.degree; terms = h.first };
     second = record { degree = v.degree; terms = row_combination ring rows h.coefficients };
     in_module = h.inside;
-    in_span = (record { degree = v.degree; terms = h.coefficients }, h.vector, refl);
+    in_span = record { coefficients = record { degree = v.degree; terms = h.coefficients }; homogeneous = h.vector; value = refl };
     first_degree = refl;
     second_degree = refl;
     sum = h.sum;

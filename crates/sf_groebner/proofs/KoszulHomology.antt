@@ -27,8 +27,8 @@ unfolding add combination combination_terms normal insert sum_mod product_mod
 koszul_left_out = record {
   first = koszul_row;
   second = vector 2 [];
-  in_module = (vector 2 (term 1 0 [] ∷ []), search (arith, ints), refl);
-  in_span = (vector 2 [], search (arith, ints), refl);
+  in_module = record { coefficients = vector 2 (term 1 0 [] ∷ []); homogeneous = search (arith, ints); value = refl };
+  in_span = record { coefficients = vector 2 []; homogeneous = search (arith, ints); value = refl };
   first_degree = refl;
   second_degree = refl;
   sum = refl;

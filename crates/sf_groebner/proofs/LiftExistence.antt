@@ -24,8 +24,8 @@ lift_exists m prime matrix v h =
     let positive : IsRing ring = field_ring prime in
     let b = syzygy_basis m prime matrix in
     let syzygies : List Vector = b.0 in
-    let given : Vector = h.0 in
-    let e = divide ring prime (row_degrees m) syzygies (basis-monic ring (row_degrees m) (IsSyzygy m) (λ w k. k.coefficients) syzygies b.1) given h.1 in
+    let given : Vector = h.coefficients in
+    let e = divide ring prime (row_degrees m) syzygies (basis-monic ring (row_degrees m) (IsSyzygy m) (λ w k. k.coefficients) syzygies b.1) given h.homogeneous in
     let zero : row_combination ring m.rows (row_combination ring syzygies e.quotients) ≡ [] = ((syzygy_submodule m positive).combinations syzygies b.1.inside given.degree e.quotients e.homogeneous).zero in
     let terms : row_combination ring m.rows e.rest ≡ row_combination ring m.rows given.terms =
     sym (row_sum-nil ring positive.modulus (row_combination ring m.rows e.rest) (IsCanonical-row_combination ring positive.modulus m.rows e.rest))
@@ -37,7 +37,7 @@ lift_exists m prime matrix v h =
         syzygies = syzygies;
         basis = b.1;
         coefficients = e.vector;
-        value = (λ i. record { degree = given.degree; terms = terms i }) ∙ h.2;
+        value = (λ i. record { degree = given.degree; terms = terms i }) ∙ h.value;
         reduced = e.free;
       },
     )

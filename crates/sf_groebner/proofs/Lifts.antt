@@ -11,12 +11,12 @@ use Rattle.sf_algebra.proofs.Keys.{place_keys}
 use Rattle.sf_algebra.proofs.Lists.{AllByRecursion-weaken}
 use Rattle.sf_algebra.proofs.Negatives.{add-negative}
 use Rattle.sf_algebra.proofs.Rows.{IsCanonical-row_combination}
-use Rattle.sf_groebner.specs.Cuts.{has_first_part, first_parts, IsFirstBlock}
+use Rattle.sf_groebner.specs.Cuts.{has_first_part, first_parts, IsFirstBlock, IsFirstPart}
 use Rattle.sf_groebner.specs.Lifts.{IsLift}
 use Rattle.sf_groebner.specs.ReducedBases.{IsReducedBy, IsReducedBasis, IsSyzygyBasis}
 use Rattle.sf_groebner.specs.Spans.{IsCoefficients, combined, IsSyzygy}
 use Rattle.sf_groebner.proofs.Apart.{IsReducedBy-item}
-use Rattle.sf_groebner.proofs.FirstParts.{IsFirstPart, first_part, first_part_module, reduced-first_parts}
+use Rattle.sf_groebner.proofs.FirstParts.{first_part, first_part_module, reduced-first_parts}
 use Rattle.sf_groebner.proofs.Items.{AllByRecursion-from_items}
 use Rattle.sf_groebner.proofs.ReducedParts.{elements, reduced_by-parts}
 use Rattle.sf_groebner.proofs.Remainders.{same_reduced}
@@ -48,8 +48,8 @@ pub reduced-first_block : (m : Matrix) (n : ℕ) (syzygies : List Vector) (c : V
     → IsReducedBy (first_parts n syzygies) (part_terms 0 n c.terms)
 reduced-first_block m n syzygies c h free =
     let cut = first_part m.ring (row_degrees m) (IsSyzygy m) (λ w k. k.coefficients) n in
-    reduced_by-parts 0 n (has_first_part n) (IsSyzygy m) (IsFirstPart m.ring (row_degrees m) (IsSyzygy m) (λ w k. k.coefficients) n) cut syzygies
-    (elements 0 n (has_first_part n) (IsSyzygy m) (IsFirstPart m.ring (row_degrees m) (IsSyzygy m) (λ w k. k.coefficients) n) cut m.ring.weights syzygies h) c
+    reduced_by-parts 0 n (has_first_part n) (IsSyzygy m) (IsFirstPart n (IsSyzygy m)) cut syzygies
+    (elements 0 n (has_first_part n) (IsSyzygy m) (IsFirstPart n (IsSyzygy m)) cut m.ring.weights syzygies h) c
     (AllByRecursion-from_items _ syzygies (λ w item e. AllByRecursion-weaken _ _ (λ t no. ap (λ b. b || false) no) c.terms (IsReducedBy-item syzygies w c.terms free item)))
 
 -- so by every reduced basis of these

@@ -24,12 +24,12 @@ module _ (ring : Ring) (positive : IsRing ring) where
   module _ (target : List ℤ) (rows : List Vector) (monic : AllByRecursion (IsMonicRow ring) rows)
       (pairs : (i j : ℕ) → i < j → j < length rows → HaveLeadsAtOnePosition rows i j → ReducesToZero ring rows i j) where
     span_lead : (v : Vector) → InSpan (matrix_of ring target rows) v → HasDividedLead rows v.terms
-    span_lead v h = subst (λ (w : Vector). HasDividedLead rows w.terms) h.2 (buchberger ring positive rows monic pairs h.0.terms (IsWithin-coefficients (matrix_of ring target rows) h.0 h.1))
+    span_lead v h = subst (λ (w : Vector). HasDividedLead rows w.terms) h.value (buchberger ring positive rows monic pairs h.coefficients.terms (IsWithin-coefficients (matrix_of ring target rows) h.coefficients h.homogeneous))
 
     sum-zero_first : (v : Vector) (h : IsInSum (matrix_of ring target rows) IsZero v) → h.second.terms ≡ v.terms
     sum-zero_first v h =
         sym (row_sum-nil_first ring positive.modulus h.second.terms
-        (subst (λ (w : Vector). IsCanonicalRow ring w.terms) h.in_span.2 (IsCanonical-row_combination ring positive.modulus rows h.in_span.0.terms)))
+        (subst (λ (w : Vector). IsCanonicalRow ring w.terms) h.in_span.value (IsCanonical-row_combination ring positive.modulus rows h.in_span.coefficients.terms)))
         ∙ ap (λ us. row_sum ring us h.second.terms) (sym h.in_module)
         ∙ h.sum
 

@@ -48,7 +48,7 @@ any_basis ring prime degrees =
     let s = span_basis m prime matrix in (
       s.0,
       IsReducedBasis-same ring.weights (InSpan m) (IsAny ring degrees) (span_module m positive matrix).vectors
-          (λ v h. (v, subst (λ ds. IsVector ring ds v) (sym (row_degrees-identity ring degrees)) h, (λ i. record { degree = v.degree; terms = row_combination-identity ring positive.modulus degrees v h i })))
+          (λ v h. record { coefficients = v; homogeneous = subst (λ ds. IsVector ring ds v) (sym (row_degrees-identity ring degrees)) h; value = (λ i. record { degree = v.degree; terms = row_combination-identity ring positive.modulus degrees v h i }) })
           s.0 s.1,
     )
 

@@ -51,7 +51,7 @@ module _ (m : Matrix) (positive : IsRing m.ring) where
   pub InSpan-sum : (v : Vector) → IsInSum m IsZero v → InSpan m v
   InSpan-sum v h =
       let canonical : IsCanonicalRow m.ring h.second.terms =
-      subst (λ (x : Vector). IsCanonicalRow m.ring x.terms) (h.in_span).2 (IsCanonical-row_combination m.ring positive.modulus m.rows ((h.in_span).0).terms) in
+      subst (λ (x : Vector). IsCanonicalRow m.ring x.terms) (h.in_span).value (IsCanonical-row_combination m.ring positive.modulus m.rows ((h.in_span).coefficients).terms) in
       let terms : h.second.terms ≡ v.terms =
       sym (row_sum-nil_first m.ring positive.modulus h.second.terms canonical)
       ∙ ap (λ ts. row_sum m.ring ts h.second.terms) (sym h.in_module)
@@ -67,7 +67,7 @@ module _ (m : Matrix) (positive : IsRing m.ring) where
     first_degree = refl;
     second_degree = refl;
     sum = row_sum-nil_first m.ring positive.modulus v.terms
-        (subst (λ (x : Vector). IsCanonicalRow m.ring x.terms) h.2 (IsCanonical-row_combination m.ring positive.modulus m.rows (h.0).terms));
+        (subst (λ (x : Vector). IsCanonicalRow m.ring x.terms) h.value (IsCanonical-row_combination m.ring positive.modulus m.rows (h.coefficients).terms));
   }
 
 -- minimal generators modulo 0 span the module

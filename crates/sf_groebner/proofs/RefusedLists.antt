@@ -16,15 +16,15 @@ use Rattle.sf_groebner.proofs.QuadricsParts.{quadrics-span}
 
 -- rows that are given by coefficients
 in_span : (c : Vector) → IsCoefficients quadrics c → InSpan quadrics (combined quadrics c)
-in_span c h = (c, h, refl)
+in_span c h = record { coefficients = c; homogeneous = h; value = refl }
 
 first : InSpan quadrics first_row
 unfolding combination combination_terms normal insert sum_mod product_mod
-first = (vector 2 (term 1 0 [] ∷ []), search (arith, ints), refl)
+first = record { coefficients = vector 2 (term 1 0 [] ∷ []); homogeneous = search (arith, ints); value = refl }
 
 second : InSpan quadrics second_row
 unfolding combination combination_terms normal insert sum_mod product_mod
-second = (vector 2 (term 1 1 [] ∷ []), search (arith, ints), refl)
+second = record { coefficients = vector 2 (term 1 1 [] ∷ []); homogeneous = search (arith, ints); value = refl }
 
 third : InSpan quadrics third_row
 third = quadrics-span.inside.1.1.0
@@ -41,7 +41,7 @@ pub refuses_later_lead_in_tail : RefusesLaterLeadInTail
 unfolding combination combination_terms normal insert sum_mod product_mod
 refuses_later_lead_in_tail = (
   λ h. let e = h.apart.0.0.0.1.0 in cc,
-  ((vector 2 (term 1 0 [] ∷ term 1 1 [] ∷ []), search (arith, ints), refl), (second, (third, tt))),
+  (record { coefficients = vector 2 (term 1 0 [] ∷ term 1 1 [] ∷ []); homogeneous = search (arith, ints); value = refl }, (second, (third, tt))),
   (refl, (refl, (refl, tt))),
   complete_from later_lead_in_tail (λ k h. h),
   ((refl, (refl, tt)), ((refl, tt), (tt, tt))),
@@ -51,7 +51,7 @@ pub refuses_earlier_lead_in_tail : RefusesEarlierLeadInTail
 unfolding combination combination_terms normal insert sum_mod product_mod
 refuses_earlier_lead_in_tail = (
   λ h. let e = h.apart.0.1.0.1.1.0 in cc,
-  (first, (second, ((vector 3 (term 1 0 (0 ∷ 1 ∷ []) ∷ term 1 0 (0 ∷ 0 ∷ 1 ∷ []) ∷ term 100 1 (1 ∷ []) ∷ term 1 1 (0 ∷ 1 ∷ []) ∷ []), search (arith, ints), refl), tt))),
+  (first, (second, (record { coefficients = vector 3 (term 1 0 (0 ∷ 1 ∷ []) ∷ term 1 0 (0 ∷ 0 ∷ 1 ∷ []) ∷ term 100 1 (1 ∷ []) ∷ term 1 1 (0 ∷ 1 ∷ []) ∷ []); homogeneous = search (arith, ints); value = refl }, tt))),
   (refl, (refl, (refl, tt))),
   complete_from earlier_lead_in_tail (λ k h. h),
   ((refl, (refl, tt)), ((refl, tt), (tt, tt))),
@@ -87,7 +87,7 @@ pub refuses_doubled_row : RefusesDoubledRow
 unfolding combination combination_terms normal insert sum_mod product_mod
 refuses_doubled_row = (
   λ h. absurd (omega (arith, h.monic.1.0)),
-  (first, ((vector 2 (term 2 1 [] ∷ []), search (arith, ints), refl), (third, tt))),
+  (first, (record { coefficients = vector 2 (term 2 1 [] ∷ []); homogeneous = search (arith, ints); value = refl }, (third, tt))),
   complete_from doubled_row (λ k h. h),
   search arith,
   ((refl, (refl, tt)), ((refl, tt), (tt, tt))),
@@ -97,7 +97,7 @@ pub refuses_zero : RefusesZero
 unfolding combination combination_terms normal insert sum_mod product_mod
 refuses_zero = (
   λ h. h.monic.1.1.1.0,
-  (first, (second, (third, ((vector 4 [], search (arith, ints), refl), tt)))),
+  (first, (second, (third, (record { coefficients = vector 4 []; homogeneous = search (arith, ints); value = refl }, tt)))),
   complete_from with_zero (λ k h. h),
   search arith,
   ((refl, (refl, (refl, tt))), ((refl, (refl, tt)), ((refl, tt), (tt, tt)))),

@@ -24,14 +24,14 @@ use Rattle.sf_groebner.proofs.StackedSpans.{stack_coefficients, first_coefficien
 
 module _ (a b : Matrix) (positive : IsRing a.ring) (rings : a.ring ≡ b.ring) where
   relation_from_block : (v : Vector) → IsFirstBlock a b v → IsRelation a (InSpan b) v
-  relation_from_block v h = subst (IsRelation a (InSpan b)) h.2 (record {
-    coefficients = first_coefficients a b h.0 h.1.coefficients;
-    inside = (
-      record { degree = h.0.degree; terms = negative a.ring.modulus (others h.0) },
-      subst (λ ring. IsVector ring (row_degrees b) (record { degree = h.0.degree; terms = negative a.ring.modulus (others h.0) })) rings
-          (IsVector-negative a.ring (row_degrees b) h.0.degree (others h.0) (last_coefficients a b h.0 h.1.coefficients)),
-      (λ i. record { degree = h.0.degree; terms = (ap (λ ring. row_combination ring b.rows (negative a.ring.modulus (others h.0))) (sym rings) ∙ same h.0 h.1) i }),
-    );
+  relation_from_block v h = subst (IsRelation a (InSpan b)) h.part (record {
+    coefficients = first_coefficients a b h.whole h.inside.coefficients;
+    inside = record {
+      coefficients = record { degree = h.whole.degree; terms = negative a.ring.modulus (others h.whole) };
+      homogeneous = subst (λ ring. IsVector ring (row_degrees b) (record { degree = h.whole.degree; terms = negative a.ring.modulus (others h.whole) })) rings
+          (IsVector-negative a.ring (row_degrees b) h.whole.degree (others h.whole) (last_coefficients a b h.whole h.inside.coefficients));
+      value = (λ i. record { degree = h.whole.degree; terms = (ap (λ ring. row_combination ring b.rows (negative a.ring.modulus (others h.whole))) (sym rings) ∙ same h.whole h.inside) i });
+    };
   })
     where
       others : Vector → List (Term Place)
@@ -50,26 +50,26 @@ module _ (a b : Matrix) (positive : IsRing a.ring) (rings : a.ring ≡ b.ring) w
 
   block_from_relation : (v : Vector) → IsRelation a (InSpan b) v → IsFirstBlock a b v
   block_from_relation v h =
-      let d = h.inside.0 in
+      let d = h.inside.coefficients in
       let ring = a.ring in
       let within = IsWithin-coefficients a v h.coefficients in
-      let degree : d.degree ≡ v.degree = ap (λ x. x.degree) h.inside.2 in
+      let degree : d.degree ≡ v.degree = ap (λ x. x.degree) h.inside.value in
       let coefficients : IsVector ring (row_degrees b) (record { degree = v.degree; terms = negative ring.modulus d.terms }) =
       IsVector-negative ring (row_degrees b) v.degree d.terms
-      (subst (λ e. IsVector ring (row_degrees b) (record { degree = e; terms = d.terms })) degree (subst (λ q. IsVector q (row_degrees b) d) (sym rings) h.inside.1)) in
+      (subst (λ e. IsVector ring (row_degrees b) (record { degree = e; terms = d.terms })) degree (subst (λ q. IsVector q (row_degrees b) d) (sym rings) h.inside.homogeneous)) in
       let pair : IsVector ring (row_degrees a ++ row_degrees b) (record { degree = v.degree; terms = paired_terms (length a.rows) v.terms (negative ring.modulus d.terms) }) =
       subst (λ n. IsVector ring (row_degrees a ++ row_degrees b) (record { degree = v.degree; terms = paired_terms n v.terms (negative ring.modulus d.terms) })) (length-map a.rows (λ (x : Vector). x.degree))
       (IsVector-pair (row_degrees a) (row_degrees b) v.degree ring v.terms (negative ring.modulus d.terms) h.coefficients coefficients) in
-      let canonical : IsCanonicalRow ring d.terms = subst (λ q. IsCanonicalRow q d.terms) (sym rings) h.inside.1.canonical in
-      let value : row_combination ring b.rows d.terms ≡ row_combination ring a.rows v.terms = ap (λ q. row_combination q b.rows d.terms) rings ∙ ap (λ x. x.terms) h.inside.2 in
+      let canonical : IsCanonicalRow ring d.terms = subst (λ q. IsCanonicalRow q d.terms) (sym rings) h.inside.homogeneous.canonical in
+      let value : row_combination ring b.rows d.terms ≡ row_combination ring a.rows v.terms = ap (λ q. row_combination q b.rows d.terms) rings ∙ ap (λ x. x.terms) h.inside.value in
       let zero : row_combination ring (a.rows ++ b.rows) (paired_terms (length a.rows) v.terms (negative ring.modulus d.terms)) ≡ [] =
       row_combination-stacked ring positive.modulus a.rows b.rows v.terms (negative ring.modulus d.terms) within
       ∙ ap (row_sum ring (row_combination ring a.rows v.terms)) (row_combination-negative ring positive.modulus b.rows d.terms canonical ∙ ap (negative ring.modulus) value)
-      ∙ add-negative (place_keys ring.weights) ring.modulus positive.modulus (row_combination ring a.rows v.terms) (IsCanonical-row_combination ring positive.modulus a.rows v.terms) in (
-        record { degree = v.degree; terms = paired_terms (length a.rows) v.terms (negative ring.modulus d.terms) },
-        record { coefficients = stack_coefficients a b _ pair; zero = zero },
-        (λ i. record { degree = v.degree; terms = part_terms-pair_first (length a.rows) v.terms (negative ring.modulus d.terms) within i }),
-      )
+      ∙ add-negative (place_keys ring.weights) ring.modulus positive.modulus (row_combination ring a.rows v.terms) (IsCanonical-row_combination ring positive.modulus a.rows v.terms) in record {
+        whole = record { degree = v.degree; terms = paired_terms (length a.rows) v.terms (negative ring.modulus d.terms) };
+        inside = record { coefficients = stack_coefficients a b _ pair; zero = zero };
+        part = (λ i. record { degree = v.degree; terms = part_terms-pair_first (length a.rows) v.terms (negative ring.modulus d.terms) within i });
+      }
 
   pub IsRelation-blocks : (v : Vector) → (IsRelation a (InSpan b) v → IsFirstBlock a b v) × (IsFirstBlock a b v → IsRelation a (InSpan b) v)
   IsRelation-blocks v = (block_from_relation v, relation_from_block v)

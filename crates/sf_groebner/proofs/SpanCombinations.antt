@@ -37,20 +37,20 @@ row_combination-normal ring positive rows c =
 module _ (m : Matrix) (positive : IsRing m.ring) where
   pub IsCombination-InSpan : (v : Vector) → InSpan m v → IsCombination m.ring m.rows v
   IsCombination-InSpan v h = record {
-    coefficients = (h.0).terms;
-    homogeneous = subst (λ d. IsHomogeneous m.ring.weights (row_degrees m) d (h.0).terms) (ap (λ x. x.degree) h.2) (h.1).homogeneous;
-    value = ap (λ x. x.terms) h.2;
+    coefficients = (h.coefficients).terms;
+    homogeneous = subst (λ d. IsHomogeneous m.ring.weights (row_degrees m) d (h.coefficients).terms) (ap (λ x. x.degree) h.value) (h.homogeneous).homogeneous;
+    value = ap (λ x. x.terms) h.value;
   }
 
   pub InSpan-IsCombination : (v : Vector) → IsCombination m.ring m.rows v → InSpan m v
-  InSpan-IsCombination v h = (
-    record { degree = v.degree; terms = normal (place_cmp m.ring.weights) m.ring.modulus h.coefficients },
-    record {
+  InSpan-IsCombination v h = record {
+    coefficients = record { degree = v.degree; terms = normal (place_cmp m.ring.weights) m.ring.modulus h.coefficients };
+    homogeneous = record {
       canonical = IsCanonical-normal (place_cmp m.ring.weights) (place_cmp_linear m.ring.weights) m.ring.modulus positive.modulus h.coefficients;
       homogeneous = IsHomogeneous-normal (row_degrees m) m.ring v.degree h.coefficients h.homogeneous;
-    },
-    (λ i. record { degree = v.degree; terms = (row_combination-normal m.ring positive m.rows h.coefficients ∙ h.value) i }),
-  )
+    };
+    value = (λ i. record { degree = v.degree; terms = (row_combination-normal m.ring positive m.rows h.coefficients ∙ h.value) i });
+  }
 
   pub span_submodule : IsMatrix m → IsSubmodule m.ring m.target (InSpan m)
   span_submodule matrix = record {

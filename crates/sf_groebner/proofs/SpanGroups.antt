@@ -34,12 +34,12 @@ module _ (m : Matrix) (positive : IsRing m.ring) (d : ℤ) where
     -- the vectors of degree d in the span are the combinations with coefficients of degree d
     pub InSpan-image : IsWithin (of_values (InSpan m)) (ImageOf (combined_matrix m positive.modulus d is_matrix) Whole)
     InSpan-image v h =
-        let degree : (h.0).degree ≡ d = ap (λ (w : Vector). w.degree) h.2 in
-        let c = subst (λ e. IsVector m.ring (row_degrees m) (record { degree = e; terms = (h.0).terms })) degree h.1 in
-        (((h.0).terms, c), tt, same_vector m.ring m.target d _ v (ap (λ (w : Vector). w.terms) h.2))
+        let degree : (h.coefficients).degree ≡ d = ap (λ (w : Vector). w.degree) h.value in
+        let c = subst (λ e. IsVector m.ring (row_degrees m) (record { degree = e; terms = (h.coefficients).terms })) degree h.homogeneous in
+        (((h.coefficients).terms, c), tt, same_vector m.ring m.target d _ v (ap (λ (w : Vector). w.terms) h.value))
 
     pub image-InSpan : IsWithin (ImageOf (combined_matrix m positive.modulus d is_matrix) Whole) (of_values (InSpan m))
-    image-InSpan v h = (record { degree = d; terms = (h.0).0 }, (h.0).1, λ i. record { degree = d; terms = (h.2 i).0 })
+    image-InSpan v h = record { coefficients = record { degree = d; terms = (h.0).0 }; homogeneous = (h.0).1; value = λ i. record { degree = d; terms = (h.2 i).0 } }
 
     pub InSpan-sub : IsSub (values_of_degree m positive.modulus d) (of_values (InSpan m))
     InSpan-sub =
@@ -77,14 +77,14 @@ module _ (m : Matrix) (positive : IsRing m.ring) (d : ℤ) where
 module _ (m : Matrix) (positive : IsRing m.ring) where
   -- a vector in the span is in it with coefficients of no degree in particular
   pub InSpan-SpanOf : (v : Vector) (canonical : IsCanonicalRow m.ring v.terms) → InSpan m v → SpanOf m.ring positive.modulus m.rows (v.terms, canonical)
-  InSpan-SpanOf v canonical h = (((h.0).terms, (h.1).canonical), tt, same_canonical (place_cmp m.ring.weights) m.ring.modulus _ _ (ap (λ (w : Vector). w.terms) h.2))
+  InSpan-SpanOf v canonical h = (((h.coefficients).terms, (h.homogeneous).canonical), tt, same_canonical (place_cmp m.ring.weights) m.ring.modulus _ _ (ap (λ (w : Vector). w.terms) h.value))
 
   -- with any coefficients it is in the span: those of its degree do
   pub SpanOf-InSpan : IsMatrix m → (v : Vector) (vector : IsVector m.ring m.target v) → SpanOf m.ring positive.modulus m.rows (v.terms, vector.canonical) → InSpan m v
   SpanOf-InSpan is_matrix v vector h =
       let value : row_combination m.ring m.rows (h.0).0 ≡ v.terms = λ i. (h.2 i).0 in
-      let c : Vector = record { degree = v.degree; terms = degree_part m.ring.weights (row_degrees m) v.degree (h.0).0 } in (
-        c,
-        record { canonical = IsCanonical-filter _ (place_cmp m.ring.weights) m.ring.modulus (h.0).0 (h.0).1; homogeneous = IsHomogeneous-degree_part m.ring.weights (row_degrees m) v.degree (h.0).0 },
-        λ i. record { degree = v.degree; terms = row_combination-IsVector m positive.modulus is_matrix v vector (h.0).0 value i },
-      )
+      let c : Vector = record { degree = v.degree; terms = degree_part m.ring.weights (row_degrees m) v.degree (h.0).0 } in record {
+        coefficients = c;
+        homogeneous = record { canonical = IsCanonical-filter _ (place_cmp m.ring.weights) m.ring.modulus (h.0).0 (h.0).1; homogeneous = IsHomogeneous-degree_part m.ring.weights (row_degrees m) v.degree (h.0).0 };
+        value = λ i. record { degree = v.degree; terms = row_combination-IsVector m positive.modulus is_matrix v vector (h.0).0 value i };
+      }

@@ -36,12 +36,12 @@ module _ (m : Matrix) (positive : IsRing m.ring) where
 
   pub span_module : IsMatrix m → IsModuleLike m.ring m.target (InSpan m)
   span_module matrix = record {
-    vectors = λ v h. subst (IsVector m.ring m.target) h.2 (IsVector-row_combination m positive.modulus matrix h.0 h.1);
-    differences = λ u v h k e. (
-      vector_difference m.ring h.0 k.0,
-      IsVector-difference m.ring positive (row_degrees m) h.0 k.0 h.1 k.1 (ap (λ x. x.degree) h.2 ∙ e ∙ sym (ap (λ x. x.degree) k.2)),
-      combined-difference h.0 k.0 k.1.canonical ∙ (λ i. vector_difference m.ring (h.2 i) (k.2 i)),
-    );
+    vectors = λ v h. subst (IsVector m.ring m.target) h.value (IsVector-row_combination m positive.modulus matrix h.coefficients h.homogeneous);
+    differences = λ u v h k e. record {
+      coefficients = vector_difference m.ring h.coefficients k.coefficients;
+      homogeneous = IsVector-difference m.ring positive (row_degrees m) h.coefficients k.coefficients h.homogeneous k.homogeneous (ap (λ x. x.degree) h.value ∙ e ∙ sym (ap (λ x. x.degree) k.value));
+      value = combined-difference h.coefficients k.coefficients k.homogeneous.canonical ∙ (λ i. vector_difference m.ring (h.value i) (k.value i));
+    };
   }
 
   -- the relations of generators modulo a module

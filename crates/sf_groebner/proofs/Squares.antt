@@ -65,8 +65,8 @@ module _ (upper upper_relations lower lower_relations left right : Matrix) (squa
   -- what is the sum of a relation and what the upper map gives
   square-sum : (v : Vector) → IsInSum upper (InSpan upper_relations) v → IsInSum lower (InSpan lower_relations) (combined right v)
   square-sum v h =
-      let c : Vector = h.in_span.0 in
-      let degree : c.degree ≡ v.degree = ap (λ x. x.degree) h.in_span.2 ∙ h.second_degree in
+      let c : Vector = h.in_span.coefficients in
+      let degree : c.degree ≡ v.degree = ap (λ x. x.degree) h.in_span.value ∙ h.second_degree in
       let relation : Vector = combined right h.first in
       let through : Vector = combined right (combined upper c) in
       let below : Vector = combined lower (combined left c) in
@@ -77,15 +77,15 @@ module _ (upper upper_relations lower lower_relations left right : Matrix) (squa
       ∙ ap (row_sum ring relation.terms)
       (add-negative_again ring square.positive through.terms below.terms (IsCanonical-combined ring square.positive right refl (combined upper c)) (IsCanonical-combined ring square.positive lower lower_ring (combined left c)))
       ∙ sym (row_combination-add ring square.positive.modulus right.rows h.first.terms (combined upper c).terms)
-      ∙ ap (λ (x : Vector). row_combination ring right.rows (row_sum ring h.first.terms x.terms)) h.in_span.2
+      ∙ ap (λ (x : Vector). row_combination ring right.rows (row_sum ring h.first.terms x.terms)) h.in_span.value
       ∙ ap (row_combination ring right.rows) (subst (λ q. row_sum q h.first.terms h.second.terms ≡ v.terms) upper_ring h.sum) in
       record {
         first = record { degree = v.degree; terms = row_sum ring relation.terms apart };
         second = below;
         in_module = closed.sums v.degree relation.terms apart
             (subst (λ d. InSpan lower_relations (record { degree = d; terms = relation.terms })) h.first_degree (square.right_map.sends h.first h.in_module))
-            (subst (λ d. InSpan lower_relations (record { degree = d; terms = apart })) degree (square.commutes c h.in_span.1).difference);
-        in_span = (combined left c, left_coefficients c h.in_span.1, refl);
+            (subst (λ d. InSpan lower_relations (record { degree = d; terms = apart })) degree (square.commutes c h.in_span.homogeneous).difference);
+        in_span = record { coefficients = combined left c; homogeneous = left_coefficients c h.in_span.homogeneous; value = refl };
         first_degree = refl;
         second_degree = degree;
         sum = subst (λ q. row_sum q (row_sum ring relation.terms apart) below.terms ≡ (combined right v).terms) (sym lower_ring) sum;

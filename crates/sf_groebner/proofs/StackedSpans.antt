@@ -54,39 +54,39 @@ module _ (a b : Matrix) where
     module _ (rings : a.ring ≡ b.ring) where
       pub InSpan-stacked : (v : Vector) → InSpan (stacked a b) v → IsInSum a (InSpan b) v
       InSpan-stacked v h =
-          let c : Vector = h.0 in
+          let c : Vector = h.coefficients in
           let first = vector_part 0 (length a.rows) c in
           let last = vector_part (length a.rows) (length a.rows + length b.rows) c in
-          let degree : c.degree ≡ v.degree = ap (λ x. x.degree) h.2 in
+          let degree : c.degree ≡ v.degree = ap (λ x. x.degree) h.value in
           record {
             first = combined b last;
             second = combined a first;
-            in_module = (last, subst (λ q. IsVector q (row_degrees b) last) rings (last_coefficients c h.1), refl);
-            in_span = (first, first_coefficients c h.1, refl);
+            in_module = record { coefficients = last; homogeneous = subst (λ q. IsVector q (row_degrees b) last) rings (last_coefficients c h.homogeneous); value = refl };
+            in_span = record { coefficients = first; homogeneous = first_coefficients c h.homogeneous; value = refl };
             first_degree = degree;
             second_degree = degree;
             sum = ap (λ q. row_sum a.ring (row_combination q b.rows last.terms) (row_combination a.ring a.rows first.terms)) (sym rings)
                 ∙ row_sum-comm a.ring positive.modulus _ _
-                ∙ row_combination-blocks c h.1
-                ∙ ap (λ x. x.terms) h.2;
+                ∙ row_combination-blocks c h.homogeneous
+                ∙ ap (λ x. x.terms) h.value;
           }
 
       pub InSpan-stacked_sum : (v : Vector) → IsInSum a (InSpan b) v → InSpan (stacked a b) v
       InSpan-stacked_sum v h =
           let ring = a.ring in
-          let c : Vector = h.in_span.0 in
-          let d : Vector = h.in_module.0 in
+          let c : Vector = h.in_span.coefficients in
+          let d : Vector = h.in_module.coefficients in
           let first : IsVector ring (row_degrees a) (record { degree = v.degree; terms = c.terms }) =
-          subst (λ e. IsVector ring (row_degrees a) (record { degree = e; terms = c.terms })) (ap (λ x. x.degree) h.in_span.2 ∙ h.second_degree) h.in_span.1 in
+          subst (λ e. IsVector ring (row_degrees a) (record { degree = e; terms = c.terms })) (ap (λ x. x.degree) h.in_span.value ∙ h.second_degree) h.in_span.homogeneous in
           let last : IsVector ring (row_degrees b) (record { degree = v.degree; terms = d.terms }) =
-          subst (λ e. IsVector ring (row_degrees b) (record { degree = e; terms = d.terms })) (ap (λ x. x.degree) h.in_module.2 ∙ h.first_degree)
-          (subst (λ q. IsVector q (row_degrees b) d) (sym rings) h.in_module.1) in
+          subst (λ e. IsVector ring (row_degrees b) (record { degree = e; terms = d.terms })) (ap (λ x. x.degree) h.in_module.value ∙ h.first_degree)
+          (subst (λ q. IsVector q (row_degrees b) d) (sym rings) h.in_module.homogeneous) in
           let pair : IsVector ring (row_degrees a ++ row_degrees b) (record { degree = v.degree; terms = paired_terms (length a.rows) c.terms d.terms }) =
           subst (λ n. IsVector ring (row_degrees a ++ row_degrees b) (record { degree = v.degree; terms = paired_terms n c.terms d.terms })) (length-map a.rows (λ (x : Vector). x.degree))
           (IsVector-pair (row_degrees a) (row_degrees b) v.degree ring c.terms d.terms first last) in
           let value : row_combination ring (a.rows ++ b.rows) (paired_terms (length a.rows) c.terms d.terms) ≡ v.terms =
-          row_combination-stacked ring positive.modulus a.rows b.rows c.terms d.terms (IsWithin-coefficients a c h.in_span.1)
-          ∙ (λ i. row_sum ring (h.in_span.2 i).terms ((ap (λ q. row_combination q b.rows d.terms) rings ∙ ap (λ x. x.terms) h.in_module.2) i))
+          row_combination-stacked ring positive.modulus a.rows b.rows c.terms d.terms (IsWithin-coefficients a c h.in_span.homogeneous)
+          ∙ (λ i. row_sum ring (h.in_span.value i).terms ((ap (λ q. row_combination q b.rows d.terms) rings ∙ ap (λ x. x.terms) h.in_module.value) i))
           ∙ row_sum-comm ring positive.modulus h.second.terms h.first.terms
           ∙ h.sum in
-          (record { degree = v.degree; terms = paired_terms (length a.rows) c.terms d.terms }, stack_coefficients _ pair, (λ i. record { degree = v.degree; terms = value i }))
+          record { coefficients = record { degree = v.degree; terms = paired_terms (length a.rows) c.terms d.terms }; homogeneous = stack_coefficients _ pair; value = (λ i. record { degree = v.degree; terms = value i }) }

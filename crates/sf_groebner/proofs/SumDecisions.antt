@@ -55,10 +55,10 @@ module _ (ring : Ring) (positive : IsRing ring) (target : List ℤ) (earlier row
   InSpan-IsInSum v h =
       let s = IsSumAt-from ring target (InSpan (matrix_of ring target rows)) earlier v h in
       let n = length earlier in
-      let c : Vector = s.inside.0 in
-      let value : row_combination ring rows c.terms ≡ s.first = ap (λ (w : Vector). w.terms) s.inside.2 in
+      let c : Vector = s.inside.coefficients in
+      let value : row_combination ring rows c.terms ≡ s.first = ap (λ (w : Vector). w.terms) s.inside.value in
       let last : IsVector ring (degrees_of rows) (record { degree = v.degree; terms = c.terms }) =
-      subst (λ d. IsVector ring (degrees_of rows) (record { degree = d; terms = c.terms })) (ap (λ (w : Vector). w.degree) s.inside.2) s.inside.1 in
+      subst (λ d. IsVector ring (degrees_of rows) (record { degree = d; terms = c.terms })) (ap (λ (w : Vector). w.degree) s.inside.value) s.inside.homogeneous in
       let pair : IsVector ring (degrees_of earlier ++ degrees_of rows) (record { degree = v.degree; terms = paired_terms n s.coefficients c.terms }) =
       subst (λ k. IsVector ring (degrees_of earlier ++ degrees_of rows) (record { degree = v.degree; terms = paired_terms k s.coefficients c.terms })) (length-degrees_of earlier)
       (IsVector-pair (degrees_of earlier) (degrees_of rows) v.degree ring s.coefficients c.terms s.vector last) in
@@ -67,19 +67,19 @@ module _ (ring : Ring) (positive : IsRing ring) (target : List ℤ) (earlier row
       row_combination-stacked ring positive.modulus earlier rows s.coefficients c.terms within
       ∙ row_sum-comm ring positive.modulus (row_combination ring earlier s.coefficients) (row_combination ring rows c.terms)
       ∙ ap (λ ts. row_sum ring ts (row_combination ring earlier s.coefficients)) value
-      ∙ s.sum in (
-        record { degree = v.degree; terms = paired_terms n s.coefficients c.terms },
-        subst (λ ds. IsVector ring ds (record { degree = v.degree; terms = paired_terms n s.coefficients c.terms })) (sym whole_degrees) pair,
-        λ i. record { degree = v.degree; terms = terms i },
-      )
+      ∙ s.sum in record {
+        coefficients = record { degree = v.degree; terms = paired_terms n s.coefficients c.terms };
+        homogeneous = subst (λ ds. IsVector ring ds (record { degree = v.degree; terms = paired_terms n s.coefficients c.terms })) (sym whole_degrees) pair;
+        value = λ i. record { degree = v.degree; terms = terms i };
+      }
 
   -- and the other way round
   pub IsInSum-InSpan : (v : Vector) → InSpan (matrix_of ring target (earlier ++ rows)) v → IsInSum (matrix_of ring target earlier) (InSpan (matrix_of ring target rows)) v
   IsInSum-InSpan v h =
       let n = length earlier in
       let end = n + length rows in
-      let c : Vector = h.0 in
-      let blocks : IsVector ring (degrees_of earlier ++ degrees_of rows) c = subst (λ ds. IsVector ring ds c) whole_degrees h.1 in
+      let c : Vector = h.coefficients in
+      let blocks : IsVector ring (degrees_of earlier ++ degrees_of rows) c = subst (λ ds. IsVector ring ds c) whole_degrees h.homogeneous in
       let first : IsVector ring (degrees_of earlier) (vector_part 0 n c) =
       subst (λ ds. IsVector ring ds (vector_part 0 n c)) (slice_range-first (degrees_of earlier) (degrees_of rows) n (length-degrees_of earlier))
       (IsVector-part_terms ring (degrees_of earlier ++ degrees_of rows) 0 n c blocks) in
@@ -93,14 +93,14 @@ module _ (ring : Ring) (positive : IsRing ring) (target : List ℤ) (earlier row
       let sum : IsSumAt ring target (InSpan (matrix_of ring target rows)) earlier c.degree (row_combination ring (earlier ++ rows) c.terms) = record {
         first = row_combination ring rows (part_terms n end c.terms);
         coefficients = part_terms 0 n c.terms;
-        inside = (vector_part n end c, last, refl);
+        inside = record { coefficients = vector_part n end c; homogeneous = last; value = refl };
         vector = first;
         sum =
             row_sum-comm ring positive.modulus (row_combination ring rows (part_terms n end c.terms)) (row_combination ring earlier (part_terms 0 n c.terms))
             ∙ sym (row_combination-stacked ring positive.modulus earlier rows (part_terms 0 n c.terms) (part_terms n end c.terms) first_within)
             ∙ ap (row_combination ring (earlier ++ rows)) (paired_terms-parts ring.weights n (length rows) c.terms blocks.canonical.descending within);
       } in
-      IsSumAt-to ring target (InSpan (matrix_of ring target rows)) earlier v (subst (λ (w : Vector). IsSumAt ring target (InSpan (matrix_of ring target rows)) earlier w.degree w.terms) h.2 sum)
+      IsSumAt-to ring target (InSpan (matrix_of ring target rows)) earlier v (subst (λ (w : Vector). IsSumAt ring target (InSpan (matrix_of ring target rows)) earlier w.degree w.terms) h.value sum)
 
 module _ (ring : Ring) (prime : IsOverField ring) (target : List ℤ) (earlier : List Vector) (matrix : AllByRecursion (IsVector ring target) earlier) (v : Vector) (vector : IsVector ring target v) where
   pub decide_sum_zero : IsDecided (IsInSum (matrix_of ring target earlier) IsZero v)

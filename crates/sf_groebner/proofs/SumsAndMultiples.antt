@@ -41,20 +41,20 @@ module _ (m : Matrix) (positive : IsRing m.ring) where
   pub span_closed : HasSumsAndMultiples m.ring (InSpan m)
   span_closed = record {
     sums = λ d us vs h k.
-        let first : (h.0).degree ≡ d = ap (λ x. x.degree) h.2 in
-        let second : (k.0).degree ≡ d = ap (λ x. x.degree) k.2 in
-        let first_vector = subst (λ e. IsVector m.ring (row_degrees m) (record { degree = e; terms = (h.0).terms })) first h.1 in
-        let second_vector = subst (λ e. IsVector m.ring (row_degrees m) (record { degree = e; terms = (k.0).terms })) second k.1 in (
-          record { degree = d; terms = row_sum m.ring (h.0).terms (k.0).terms },
-          IsVector-add m.ring (row_degrees m) positive.modulus d (h.0).terms (k.0).terms first_vector second_vector,
-          (λ i. record { degree = d; terms = (row_combination-add m.ring positive.modulus m.rows (h.0).terms (k.0).terms ∙ (λ j. row_sum m.ring ((h.2 j).terms) ((k.2 j).terms))) i }),
-        );
+        let first : (h.coefficients).degree ≡ d = ap (λ x. x.degree) h.value in
+        let second : (k.coefficients).degree ≡ d = ap (λ x. x.degree) k.value in
+        let first_vector = subst (λ e. IsVector m.ring (row_degrees m) (record { degree = e; terms = (h.coefficients).terms })) first h.homogeneous in
+        let second_vector = subst (λ e. IsVector m.ring (row_degrees m) (record { degree = e; terms = (k.coefficients).terms })) second k.homogeneous in record {
+          coefficients = record { degree = d; terms = row_sum m.ring (h.coefficients).terms (k.coefficients).terms };
+          homogeneous = IsVector-add m.ring (row_degrees m) positive.modulus d (h.coefficients).terms (k.coefficients).terms first_vector second_vector;
+          value = (λ i. record { degree = d; terms = (row_combination-add m.ring positive.modulus m.rows (h.coefficients).terms (k.coefficients).terms ∙ (λ j. row_sum m.ring ((h.value j).terms) ((k.value j).terms))) i });
+        };
     multiples = λ v c h k.
-        let coefficients = subst (λ e. IsVector m.ring (e ∷ []) c) (sym (ap (λ x. x.degree) h.2)) k in (
-          scaled m.ring h.0 c,
-          IsVector-row_combination (row_matrix m.ring (row_degrees m) h.0) positive.modulus (h.1, tt) c coefficients,
-          (λ i. record { degree = c.degree; terms = (sym (row_combination-scaled h.0 c) ∙ (λ j. row_combination m.ring (h.2 j ∷ []) c.terms)) i }),
-        );
+        let coefficients = subst (λ e. IsVector m.ring (e ∷ []) c) (sym (ap (λ x. x.degree) h.value)) k in record {
+          coefficients = scaled m.ring h.coefficients c;
+          homogeneous = IsVector-row_combination (row_matrix m.ring (row_degrees m) h.coefficients) positive.modulus (h.homogeneous, tt) c coefficients;
+          value = (λ i. record { degree = c.degree; terms = (sym (row_combination-scaled h.coefficients c) ∙ (λ j. row_combination m.ring (h.value j ∷ []) c.terms)) i });
+        };
   }
 
 pub zero_closed : (ring : Ring) → IsRing ring → HasSumsAndMultiples ring IsZero

@@ -24,14 +24,14 @@ use Rattle.sf_groebner.proofs.Schreyer.{IsSpanned, schreyer}
 
 -- a homogeneous vector that is a combination of homogeneous rows is one with homogeneous coefficients
 pub InSpan-IsSpanned : (m : Matrix) → IsRing m.ring → IsMatrix m → (v : Vector) → IsVector m.ring m.target v → IsSpanned m.ring m.rows v.terms → InSpan m v
-InSpan-IsSpanned m positive is_matrix v vector h = (
-  record { degree = v.degree; terms = degree_part m.ring.weights (row_degrees m) v.degree coefficients },
-  record {
+InSpan-IsSpanned m positive is_matrix v vector h = record {
+  coefficients = record { degree = v.degree; terms = degree_part m.ring.weights (row_degrees m) v.degree coefficients };
+  homogeneous = record {
     canonical = IsCanonical-filter _ (place_cmp m.ring.weights) m.ring.modulus coefficients (IsCanonical-normal (place_cmp m.ring.weights) (place_cmp_linear m.ring.weights) m.ring.modulus positive.modulus h.coefficients);
     homogeneous = IsHomogeneous-degree_part m.ring.weights (row_degrees m) v.degree coefficients;
-  },
-  λ i. record { degree = v.degree; terms = row_combination-IsVector m positive.modulus is_matrix v vector coefficients value i },
-)
+  };
+  value = λ i. record { degree = v.degree; terms = row_combination-IsVector m positive.modulus is_matrix v vector coefficients value i };
+}
   where
     coefficients : List (Term Place)
     coefficients = normal (place_cmp m.ring.weights) m.ring.modulus h.coefficients

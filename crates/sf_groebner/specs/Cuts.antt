@@ -24,6 +24,12 @@ first_parts n vs = map (vector_part 0 n) (filter (has_first_part n) vs)
 abbrev pub last_parts : ℕ → ℕ → List Vector → List Vector
 last_parts n end vs = map (vector_part n end) (filter (λ (v : Vector). not (has_first_part n v)) vs)
 
+-- v is the part at the first n positions of a vector of a module N
+pub record IsFirstPart (n : ℕ) (N : Vector → Type 0) (v : Vector) : Type 0 where
+  pub whole : Vector
+  pub inside : N whole
+  pub part : vector_part 0 n whole ≡ v
+
 -- v is the first block of a syzygy of the rows of a and those of b: the coefficients of the rows of a
 abbrev pub IsFirstBlock : Matrix → Matrix → Vector → Type 0
-IsFirstBlock a b v = (c : Vector) × IsSyzygy (stacked a b) c × (vector_part 0 (length a.rows) c ≡ v)
+IsFirstBlock a b v = IsFirstPart (length a.rows) (IsSyzygy (stacked a b)) v

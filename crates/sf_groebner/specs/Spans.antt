@@ -14,8 +14,10 @@ abbrev pub combined : Matrix → Vector → Vector
 combined m c = record { degree = c.degree; terms = row_combination m.ring m.rows c.terms }
 
 -- v is c M for some coefficients c
-abbrev pub InSpan : Matrix → Vector → Type 0
-InSpan m v = (c : Vector) × IsCoefficients m c × (combined m c ≡ v)
+pub record InSpan (m : Matrix) (v : Vector) : Type 0 where
+  pub coefficients : Vector
+  pub homogeneous : IsCoefficients m coefficients
+  pub value : combined m coefficients ≡ v
 
 -- coefficients c with c M = 0
 pub record IsSyzygy (m : Matrix) (c : Vector) : Type 0 where
