@@ -7,94 +7,43 @@ fn monomial(exponents: [u16; 6]) -> Result<Mono, Fail> {
 }
 
 #[test]
-fn exponents_up_to_the_bound(rt: HostRuntime) -> Result<(), Fail> {
-    for (exponents, sum) in [
-        ([65535, 0, 0, 0, 0, 0], Some(65535)),
-        ([0, 1, 0, 0, 0, 65534], Some(65535)),
-        ([65535, 1, 0, 0, 0, 0], None),
-        ([0, 0, 2, 0, 0, 65534], None),
-    ] {
-        assert_eq!(rt; Mono::from_exponents(exponents).map(|a| a.sum()), sum);
-    }
-    let a = Mono::from_exponents([0, 1, 2, 3, 4, 5]).ok_or("small")?;
-    for i in 0..6 {
-        assert_eq!(rt; a.exponent(i), i as u16);
-    }
-    assert_eq!(rt; Some(a.mul(a)), Mono::from_exponents([0, 2, 4, 6, 8, 10]));
+fn exponents_and_their_sum(rt: HostRuntime) -> Result<(), Fail> {
+    assert!(rt; Mono::from_exponents([65535, 1, 0, 0, 0, 0]).is_none());
+    let a = monomial([0, 1, 2, 3, 4, 5])?;
+    assert_eq!(rt; a.sum(), 15);
+    assert_eq!(rt; a.exponent(4), 4);
+    assert_eq!(rt; a.mul(Mono::one()), a);
     Ok(())
 }
 
-// The first two are the examples of Cox, Little, O'Shea, "Ideals, Varieties, and Algorithms", chapter 2, section 2.
+// The examples of Cox, Little, O'Shea, "Ideals, Varieties, and Algorithms", chapter 2, section 2.
 #[test]
 fn monomials_in_order(rt: HostRuntime) -> Result<(), Fail> {
-    for (left, right, order) in [
-        ([4, 7, 1, 0, 0, 0], [4, 2, 3, 0, 0, 0], Ordering::Greater),
-        ([1, 5, 2, 0, 0, 0], [4, 1, 3, 0, 0, 0], Ordering::Greater),
-        ([0, 1, 0, 0, 0, 0], [1, 0, 0, 0, 0, 0], Ordering::Less),
-        ([0, 0, 0, 0, 0, 3], [0, 0, 0, 0, 0, 3], Ordering::Equal),
+    for (left, right) in [
+        ([4, 7, 1, 0, 0, 0], [4, 2, 3, 0, 0, 0]),
+        ([1, 5, 2, 0, 0, 0], [4, 1, 3, 0, 0, 0]),
     ] {
-        let left = monomial(left)?;
-        let right = monomial(right)?;
-        assert_eq!(rt; left.cmp(&right), order);
-        assert_eq!(rt; left == right, order == Ordering::Equal);
-        assert_eq!(rt; left.max(right) == left, order != Ordering::Less);
+        assert_eq!(rt; monomial(left)?.cmp(&monomial(right)?), Ordering::Greater);
     }
     Ok(())
 }
 
 #[test]
 fn quotients_by_divisors(rt: HostRuntime) -> Result<(), Fail> {
-    // the divisor, the monomial, and the quotient where there is one
-    for (divisor, dividend, quotient) in [
-        (
-            [0, 0, 0, 0, 0, 0],
-            [1, 2, 3, 4, 5, 6],
-            Some([1, 2, 3, 4, 5, 6]),
-        ),
-        (
-            [1, 2, 3, 4, 5, 6],
-            [1, 2, 3, 4, 5, 7],
-            Some([0, 0, 0, 0, 0, 1]),
-        ),
-        (
-            [0, 65535, 0, 0, 0, 0],
-            [0, 65535, 0, 0, 0, 0],
-            Some([0, 0, 0, 0, 0, 0]),
-        ),
-        ([0, 0, 0, 0, 0, 1], [9, 9, 9, 9, 9, 0], None),
-        ([1, 0, 0, 0, 0, 0], [0, 65535, 0, 0, 0, 0], None),
-    ] {
-        let divisor = monomial(divisor)?;
-        let dividend = monomial(dividend)?;
-        assert_eq!(rt; divisor.divides(dividend), quotient.is_some());
-        if divisor.divides(dividend) {
-            assert_eq!(rt;
-                Some(dividend.quotient(divisor)),
-                quotient.and_then(Mono::from_exponents)
-            );
-        }
-    }
+    let divisor = monomial([1, 2, 3, 4, 5, 6])?;
+    let dividend = monomial([2, 2, 3, 4, 5, 7])?;
+    assert!(rt; !dividend.divides(divisor));
+    assert!(rt; divisor.divides(dividend));
+    assert_eq!(rt; dividend.quotient(divisor), monomial([1, 0, 0, 0, 0, 1])?);
     Ok(())
 }
 
-// The first is the example of Cox, Little, O'Shea, "Ideals, Varieties, and Algorithms", chapter 2, section 6.
+// The example of Cox, Little, O'Shea, "Ideals, Varieties, and Algorithms", chapter 2, section 6.
 #[test]
 fn least_common_multiples(rt: HostRuntime) -> Result<(), Fail> {
-    for (left, right, lcm) in [
-        ([3, 2, 0, 0, 0, 0], [4, 1, 0, 0, 0, 0], [4, 2, 0, 0, 0, 0]),
-        ([1, 0, 3, 0, 5, 0], [0, 2, 0, 4, 0, 6], [1, 2, 3, 4, 5, 6]),
-        (
-            [0, 0, 0, 0, 0, 0],
-            [0, 0, 0, 0, 0, 65535],
-            [0, 0, 0, 0, 0, 65535],
-        ),
-    ] {
-        let left = monomial(left)?;
-        let right = monomial(right)?;
-        assert!(rt; left.sum() + right.sum() <= 65535);
-        assert_eq!(rt; left.lcm(right), monomial(lcm)?);
-    }
-    let greatest = Mono::from_exponents([0, 0, 0, 0, 0, 65535]).ok_or("the bound")?;
-    assert_eq!(rt; greatest.lcm(greatest), greatest);
+    let left = monomial([3, 2, 0, 0, 0, 0])?;
+    let right = monomial([4, 1, 0, 0, 0, 0])?;
+    assert!(rt; left.sum() + right.sum() <= 65535);
+    assert_eq!(rt; left.lcm(right), monomial([4, 2, 0, 0, 0, 0])?);
     Ok(())
 }
