@@ -18,8 +18,9 @@ pub fn multiply_by_identity(alloc: Global, modulus: Modulus, rounds: u32) -> Res
     let mut numbers = Generator::from_seed(1);
     let matrix = random_matrix(alloc, modulus, &mut numbers)?;
     let identity = Matrix::identity(alloc, modulus, matrix.target())?;
-    let mut product = matrix.kron(alloc, &identity)?;
-    for _ in 1..rounds {
+    let degrees = List::new(alloc);
+    let mut product = Matrix::new(alloc, modulus, Free { degrees });
+    for _ in 0..rounds.max(1) {
         product = matrix.kron(alloc, &identity)?;
     }
     Ok(Outcome::of_matrix(&product))

@@ -15,8 +15,8 @@ pub fn multiply_polynomials(alloc: Global, modulus: Modulus, rounds: u32) -> Res
     let left = random_polynomial(alloc, modulus, &mut numbers)?;
     let right = random_polynomial(alloc, modulus, &mut numbers)?;
     ensure!(left.product_fits(&right), "too great");
-    let mut product = left.mul(alloc, &right)?;
-    for _ in 1..rounds {
+    let mut product = Poly::zero(alloc, modulus);
+    for _ in 0..rounds.max(1) {
         product = left.mul(alloc, &right)?;
     }
     Ok(Outcome::of_polynomial(&product))

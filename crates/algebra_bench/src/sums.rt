@@ -18,8 +18,8 @@ pub fn add_vectors(alloc: Global, modulus: Modulus, rounds: u32) -> Result<Outco
     let mut numbers = Generator::from_seed(1);
     let left = random_vector(alloc, modulus, &mut numbers)?;
     let right = random_vector(alloc, modulus, &mut numbers)?;
-    let mut sum = left.add(alloc, modulus, &right)?;
-    for _ in 1..rounds {
+    let mut sum = Vector::zero(alloc, 0);
+    for _ in 0..rounds.max(1) {
         sum = left.add(alloc, modulus, &right)?;
     }
     Ok(Outcome::of_vector(&sum))

@@ -10,13 +10,3 @@ pub kron-requires-clause-room : goal.kron-requires-clause-room
 kron-requires-clause-room c =
     let identity = IsOperand-identity_over _ _ _ _ c.facts.ensures.above_one c.in_ok-matrix.ensures.operand c.target.ensures.target c.in_ok-identity.ensures.identity in
     products_fit _ _ c.in_ok-matrix.ensures.operand identity
-
-pub kron-requires-in-loop-clause-degrees : goal.kron-requires-in-loop-clause-degrees
-kron-requires-in-loop-clause-degrees c =
-    let identity = IsOperand-identity_over _ _ _ _ c.facts.ensures.above_one c.in_ok-matrix.ensures.operand c.target.ensures.target c.in_ok-identity.ensures.identity in
-    degrees_fit _ _ c.in_ok-matrix.ensures.operand identity
-
-pub kron-requires-in-loop-clause-room : goal.kron-requires-in-loop-clause-room
-kron-requires-in-loop-clause-room c =
-    let identity = IsOperand-identity_over _ _ _ _ c.facts.ensures.above_one c.in_ok-matrix.ensures.operand c.target.ensures.target c.in_ok-identity.ensures.identity in
-    products_fit _ _ c.in_ok-matrix.ensures.operand identity
