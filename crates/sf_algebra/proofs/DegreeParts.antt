@@ -5,6 +5,7 @@ use Rattle.std.proofs.lemmas.Bool.{and_parts, cases_lt}
 use Rattle.std.proofs.lemmas.Bool.Decides.{Decides-int_eq, nat_tests}
 use Rattle.std.proofs.lemmas.List.{length-map}
 use Rattle.sf_algebra.specs.DegreeParts.{has_degree, degree_part}
+use Rattle.sf_algebra.specs.Matrices.{degrees_of}
 use Rattle.sf_algebra.specs.MatrixOperations.{row_at, row_combination}
 use Rattle.sf_algebra.specs.Monomials.{monomial_degree}
 use Rattle.sf_algebra.specs.Multiples.{place_product, term_product}
@@ -15,7 +16,7 @@ use Rattle.sf_algebra.specs.Terms.{Term}
 use Rattle.sf_algebra.specs.Vectors.{Place, Vector, generator_degree, place_degree, IsTermOfDegree, IsHomogeneous}
 use Rattle.sf_algebra.proofs.CombinationLaws.{combination-same}
 use Rattle.sf_algebra.proofs.Combinations.{factor, share, total-combination}
-use Rattle.sf_algebra.proofs.Degrees.{degrees_of, HasHomogeneousRows, IsHomogeneous-row_at, place_degree-term_product}
+use Rattle.sf_algebra.proofs.Degrees.{HasHomogeneousRows, IsHomogeneous-row_at, place_degree-term_product}
 use Rattle.sf_algebra.proofs.DoubleTotals.{total-each, total-same, total-zero}
 use Rattle.sf_algebra.proofs.Filters.{AllByRecursion-filter, total-filter}
 use Rattle.sf_algebra.proofs.Keys.{place_keys}

@@ -2,6 +2,7 @@
 use Rattle.std.proofs.Common.{◌≡◌, ℕ, zero, suc, List, [], ◌∷◌, map, sym, ◌∙◌, ap, subst, arith, ℤ, pos, ◌+ℤ◌}
 use Rattle.std.proofs.lemmas.Int.{ints}
 use Rattle.std.specs.List.{AllByRecursion}
+use Rattle.sf_algebra.specs.Matrices.{degrees_of}
 use Rattle.sf_algebra.specs.MatrixOperations.{row_at, row_combination}
 use Rattle.sf_algebra.specs.Monomials.{Monomial, monomial_degree}
 use Rattle.sf_algebra.specs.Multiples.{place_product, term_product, multiple, negative, combination, combination_terms}
@@ -15,10 +16,6 @@ use Rattle.sf_algebra.proofs.Lists.{AllByRecursion-append}
 use Rattle.sf_algebra.proofs.Negatives.{EachPlace-negative}
 use Rattle.sf_algebra.proofs.Normal.{EachPlace-normal, EachPlace-add}
 use Rattle.sf_algebra.proofs.Products.{monomial_degree-product}
-
--- the degrees of rows
-abbrev pub degrees_of : List Vector → List ℤ
-degrees_of rows = map (λ (v : Vector). v.degree) rows
 
 -- the rows are homogeneous, each of its degree
 abbrev pub HasHomogeneousRows : Weights → List ℤ → List Vector → Type 0

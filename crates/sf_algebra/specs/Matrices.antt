@@ -11,9 +11,13 @@ pub record Matrix : Type 0 where
   pub target : List ℤ
   pub rows : List Vector
 
+-- the degrees of vectors
+abbrev pub degrees_of : List Vector → List ℤ
+degrees_of vs = map (λ (v : Vector). v.degree) vs
+
 -- the degrees of the rows: those of the free module from which the matrix goes
 abbrev pub row_degrees : Matrix → List ℤ
-row_degrees m = map (λ (v : Vector). v.degree) m.rows
+row_degrees m = degrees_of m.rows
 
 -- each row is a homogeneous vector over the target
 abbrev pub IsMatrix : Matrix → Type 0

@@ -41,7 +41,7 @@ module _ (ring : Ring) (prime : IsOverField ring) (target : List ℤ) (N : Vecto
 
 module _ (ring : Ring) (positive : IsRing ring) (target : List ℤ) (B : Vector → Type 0) (closed : HasSumsAndMultiples ring B) where
   -- the kept vectors have with B the sums of all
-  HasSameSums-kept : (earlier before vs kept : List Vector) → HasSameSums ring target B positive closed earlier before → AreKept ring target B earlier vs kept
+  HasSameSums-kept : (earlier before vs kept : List Vector) → HasSameSums ring target B positive closed earlier before → AreKept ring B earlier vs kept
       → HasSameSums ring target B positive closed (earlier ++ vs) (before ++ kept)
   HasSameSums-kept earlier before [] kept h k =
       subst (λ ws. HasSameSums ring target B positive closed ws (before ++ kept)) (sym (append-nil earlier))
@@ -55,17 +55,17 @@ module _ (ring : Ring) (positive : IsRing ring) (target : List ℤ) (B : Vector 
       (subst (HasSameSums ring target B positive closed ((earlier ++ v ∷ []) ++ vs)) (append_assoc before (v ∷ []) k.1.0 ∙ ap (λ ws. before ++ ws) (sym k.1.1))
       (HasSameSums-kept (earlier ++ v ∷ []) (before ++ v ∷ []) vs k.1.0 (taken_in ring target B positive closed earlier before v h) k.1.2))
 
-  pub AreKept-sums : (vs kept : List Vector) → AreKept ring target B [] vs kept → HasSameSums ring target B positive closed vs kept
+  pub AreKept-sums : (vs kept : List Vector) → AreKept ring B [] vs kept → HasSameSums ring target B positive closed vs kept
   AreKept-sums vs kept h = HasSameSums-kept [] [] vs kept (record { to = λ d ts k. k; from = λ d ts k. k }) h
 
-module _ (ring : Ring) (prime : IsOverField ring) (target : List ℤ) (N B : Vector → Type 0) (submodule : IsSubmodule ring target N) (part : IsSubmodule ring target B) (generators : List Vector) (minimal : AreMinimal ring target N B generators) where
+module _ (ring : Ring) (prime : IsOverField ring) (target : List ℤ) (N B : Vector → Type 0) (submodule : IsSubmodule ring target N) (part : IsSubmodule ring target B) (generators : List Vector) (minimal : AreMinimal ring N B generators) where
   -- each vector of N is the sum of one of B and a combination of the generators
-  pub AreMinimal-generate : (v : Vector) → N v → IsInSum (matrix_of ring target generators) B v
+  pub AreMinimal-generate : (v : Vector) → N v → IsInSum ring generators B v
   AreMinimal-generate v h =
       let positive : IsRing ring = field_ring prime in
       let closed = submodule_closed ring positive target B part in
       let c = InSpan-IsCombination (matrix_of ring target minimal.basis) positive v (IsCombination-basis ring prime target N submodule minimal.basis minimal.reduced v h) in
-      let whole : IsInSum (matrix_of ring target minimal.basis) B v = record {
+      let whole : IsInSum ring minimal.basis B v = record {
         first = record { degree = v.degree; terms = [] };
         second = v;
         in_module = zero-inside ring positive target B part v.degree;
@@ -77,7 +77,7 @@ module _ (ring : Ring) (prime : IsOverField ring) (target : List ℤ) (N B : Vec
       IsSumAt-to ring target B generators v ((AreKept-sums ring positive target B closed minimal.basis generators minimal.kept).to v.degree v.terms (IsSumAt-from ring target B minimal.basis v whole))
 
   -- and only these are, where B is in N
-  pub AreMinimal-inside : ((v : Vector) → B v → N v) → (v : Vector) → IsInSum (matrix_of ring target generators) B v → N v
+  pub AreMinimal-inside : ((v : Vector) → B v → N v) → (v : Vector) → IsInSum ring generators B v → N v
   AreMinimal-inside within v h =
       let positive : IsRing ring = field_ring prime in
       let closed = submodule_closed ring positive target B part in

@@ -1,12 +1,12 @@
 -- Combinations of rows, and lists of vectors that generate a module.
 use Rattle.std.proofs.Common.{◌≡◌, ℕ, ◌<◌, List, [], ◌∷◌, map, refl, sym, ◌∙◌, ap, subst}
 use Rattle.std.specs.List.{AllByRecursion}
-use Rattle.sf_algebra.specs.Matrices.{Matrix}
+use Rattle.sf_algebra.specs.Matrices.{Matrix, degrees_of}
 use Rattle.sf_algebra.specs.MatrixOperations.{row_combination}
 use Rattle.sf_algebra.specs.Rings.{Ring, IsRing}
 use Rattle.sf_algebra.specs.Terms.{Term}
 use Rattle.sf_algebra.specs.Vectors.{Place, Vector, IsHomogeneous}
-use Rattle.sf_algebra.proofs.Degrees.{degrees_of, HasHomogeneousRows, IsHomogeneous-row_combination}
+use Rattle.sf_algebra.proofs.Degrees.{HasHomogeneousRows, IsHomogeneous-row_combination}
 use Rattle.sf_algebra.proofs.Rows.{row_combination-matrix_product}
 use Rattle.sf_groebner.specs.MinimalGenerators.{matrix_of}
 

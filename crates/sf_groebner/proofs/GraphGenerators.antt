@@ -3,14 +3,14 @@ use Rattle.std.proofs.Common.{◌≡◌, inl, inr, ℕ, ◌+◌, ◌<◌, List, 
 use Rattle.std.proofs.lemmas.Bool.{cases_lt}
 use Rattle.std.proofs.lemmas.List.{length-map}
 use Rattle.std.specs.List.{AllByRecursion}
-use Rattle.sf_algebra.specs.Matrices.{Matrix, IsMatrix, row_degrees}
+use Rattle.sf_algebra.specs.Matrices.{Matrix, IsMatrix, row_degrees, degrees_of}
 use Rattle.sf_algebra.specs.MatrixOperations.{moved, part_terms, row_at, row_combination, unit_rows}
 use Rattle.sf_algebra.specs.Rings.{IsRing}
 use Rattle.sf_algebra.specs.Sums.{add}
 use Rattle.sf_algebra.specs.Terms.{Term, IsCanonical}
 use Rattle.sf_algebra.specs.VectorOperations.{row_sum}
 use Rattle.sf_algebra.specs.Vectors.{Place, Vector, place_cmp, IsHomogeneous, IsVector, IsCanonicalRow}
-use Rattle.sf_algebra.proofs.Degrees.{degrees_of, IsHomogeneous-row_combination}
+use Rattle.sf_algebra.proofs.Degrees.{IsHomogeneous-row_combination}
 use Rattle.sf_algebra.proofs.HomogeneousVectors.{IsVector-row_combination}
 use Rattle.sf_algebra.proofs.Identities.{IsMatrix-identity, degrees-unit_rows, length-unit_rows}
 use Rattle.sf_algebra.proofs.Lists.{AllByRecursion-weaken}

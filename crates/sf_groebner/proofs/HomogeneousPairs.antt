@@ -1,11 +1,11 @@
 -- S-vectors of monic homogeneous rows are homogeneous; a division of one without a rest reduces the pair to zero.
 use Rattle.std.proofs.Common.{◌≡◌, ℕ, ◌<◌, List, [], length, refl, sym, subst, arith, ℤ}
 use Rattle.std.specs.List.{AllByRecursion}
+use Rattle.sf_algebra.specs.Matrices.{degrees_of}
 use Rattle.sf_algebra.specs.Primes.{IsPrime}
 use Rattle.sf_algebra.specs.Rings.{Ring, IsRing, IsOverField}
 use Rattle.sf_algebra.specs.Terms.{Term}
 use Rattle.sf_algebra.specs.Vectors.{Place, Vector, place_degree, IsTermOfDegree, IsHomogeneous}
-use Rattle.sf_algebra.proofs.Degrees.{degrees_of}
 use Rattle.sf_algebra.proofs.Divisors.{lcm-multiple}
 use Rattle.sf_algebra.proofs.Lists.{AllByRecursion-weaken}
 use Rattle.sf_groebner.specs.Criterion.{IsMonicRow, HaveLeadsAtOnePosition, ReducesToZero, lcm_place, lead_at, s_coefficients, s_vector}

@@ -1,13 +1,13 @@
 -- Minimal generators may be chosen by the generators kept before: what was left out is in the sum of their span and B.
 use Rattle.std.proofs.Common.{◌≡◌, inl, inr, ℕ, zero, suc, ◌+◌, ◌<◌, List, [], ◌∷◌, ◌++◌, length, refl, sym, ◌∙◌, ap, subst, ℤ, arith}
 use Rattle.std.proofs.lemmas.List.{length-append, length-map, map-append}
+use Rattle.sf_algebra.specs.Matrices.{degrees_of}
 use Rattle.sf_algebra.specs.MatrixOperations.{row_at, row_combination, part_terms}
 use Rattle.sf_algebra.specs.Rings.{Ring, IsRing}
 use Rattle.sf_algebra.specs.Sums.{add}
 use Rattle.sf_algebra.specs.Terms.{Term}
 use Rattle.sf_algebra.specs.VectorOperations.{row_sum}
 use Rattle.sf_algebra.specs.Vectors.{Place, Vector, place_cmp, IsVector}
-use Rattle.sf_algebra.proofs.Degrees.{degrees_of}
 use Rattle.sf_algebra.proofs.HomogeneousVectors.{IsVector-add, IsVector-nil, IsVector-row_combination}
 use Rattle.sf_algebra.proofs.MatrixRows.{IsWithin}
 use Rattle.sf_algebra.proofs.Orders.{place_cmp_linear}
@@ -32,7 +32,7 @@ module _ (ring : Ring) (target : List ℤ) (B : Vector → Type 0) where
     pub vector : IsVector ring (degrees_of rows) (record { degree = d; terms = coefficients })
     pub sum : row_sum ring first (row_combination ring rows coefficients) ≡ ts
 
-  pub IsSumAt-from : (rows : List Vector) (v : Vector) → IsInSum (matrix_of ring target rows) B v → IsSumAt rows v.degree v.terms
+  pub IsSumAt-from : (rows : List Vector) (v : Vector) → IsInSum ring rows B v → IsSumAt rows v.degree v.terms
   IsSumAt-from rows v h =
       let c = (h.in_span).coefficients in
       let degree : c.degree ≡ v.degree = ap (λ x. x.degree) (h.in_span).value ∙ h.second_degree in
@@ -44,7 +44,7 @@ module _ (ring : Ring) (target : List ℤ) (B : Vector → Type 0) where
         sum = ap (λ x. row_sum ring h.first.terms x.terms) (h.in_span).value ∙ h.sum;
       }
 
-  pub IsSumAt-to : (rows : List Vector) (v : Vector) → IsSumAt rows v.degree v.terms → IsInSum (matrix_of ring target rows) B v
+  pub IsSumAt-to : (rows : List Vector) (v : Vector) → IsSumAt rows v.degree v.terms → IsInSum ring rows B v
   IsSumAt-to rows v h = record {
     first = record { degree = v.degree; terms = h.first };
     second = record { degree = v.degree; terms = row_combination ring rows h.coefficients };
@@ -183,13 +183,13 @@ module _ (ring : Ring) (target : List ℤ) (B : Vector → Type 0) where
         pub to : (d : ℤ) (ts : List (Term Place)) → IsSumAt rows d ts → IsSumAt others d ts
         pub from : (d : ℤ) (ts : List (Term Place)) → IsSumAt others d ts → IsSumAt rows d ts
 
-      same_in : (rows others : List Vector) → HasSameSums rows others → (v : Vector) → IsInSum (matrix_of ring target rows) B v → IsInSum (matrix_of ring target others) B v
+      same_in : (rows others : List Vector) → HasSameSums rows others → (v : Vector) → IsInSum ring rows B v → IsInSum ring others B v
       same_in rows others h v k = IsSumAt-to others v (h.to v.degree v.terms (IsSumAt-from rows v k))
 
       back : (rows others : List Vector) → HasSameSums rows others → HasSameSums others rows
       back rows others h = record { to = h.from; from = h.to }
 
-      pub left_out : (rows others : List Vector) (v : Vector) → HasSameSums rows others → IsInSum (matrix_of ring target rows) B v → HasSameSums (rows ++ v ∷ []) others
+      pub left_out : (rows others : List Vector) (v : Vector) → HasSameSums rows others → IsInSum ring rows B v → HasSameSums (rows ++ v ∷ []) others
       left_out rows others v h k = record {
         to = λ d ts s. h.to d ts (IsSumAt-absorb rows v (IsSumAt-from rows v k) d ts s);
         from = λ d ts s. IsSumAt-more rows v d ts (h.from d ts s);
@@ -198,7 +198,7 @@ module _ (ring : Ring) (target : List ℤ) (B : Vector → Type 0) where
       pub taken_in : (rows others : List Vector) (v : Vector) → HasSameSums rows others → HasSameSums (rows ++ v ∷ []) (others ++ v ∷ [])
       taken_in rows others v h = record { to = IsSumAt-both rows others v h.to; from = IsSumAt-both others rows v h.from }
 
-      chosen_from_kept : (earlier before vs kept : List Vector) → HasSameSums earlier before → AreKept ring target B earlier vs kept → AreChosen ring target B before vs kept
+      chosen_from_kept : (earlier before vs kept : List Vector) → HasSameSums earlier before → AreKept ring B earlier vs kept → AreChosen ring B before vs kept
       chosen_from_kept earlier before [] kept h k = k
       chosen_from_kept earlier before (v ∷ vs) kept h (inl k) =
           inl (same_in earlier before h v k.0, chosen_from_kept (earlier ++ v ∷ []) before vs kept (left_out earlier before v h k.0) k.1)
@@ -207,7 +207,7 @@ module _ (ring : Ring) (target : List ℤ) (B : Vector → Type 0) where
         (k.1.0, k.1.1, chosen_from_kept (earlier ++ v ∷ []) (before ++ v ∷ []) vs k.1.0 (taken_in earlier before v h) k.1.2),
       )
 
-      kept_from_chosen : (earlier before vs kept : List Vector) → HasSameSums earlier before → AreChosen ring target B before vs kept → AreKept ring target B earlier vs kept
+      kept_from_chosen : (earlier before vs kept : List Vector) → HasSameSums earlier before → AreChosen ring B before vs kept → AreKept ring B earlier vs kept
       kept_from_chosen earlier before [] kept h k = k
       kept_from_chosen earlier before (v ∷ vs) kept h (inl k) =
           let inside = same_in before earlier (back earlier before h) v k.0 in
@@ -217,7 +217,7 @@ module _ (ring : Ring) (target : List ℤ) (B : Vector → Type 0) where
         (k.1.0, k.1.1, kept_from_chosen (earlier ++ v ∷ []) (before ++ v ∷ []) vs k.1.0 (taken_in earlier before v h) k.1.2),
       )
 
-      pub AreKept-chosen : (vs kept : List Vector) → (AreKept ring target B [] vs kept → AreChosen ring target B [] vs kept) × (AreChosen ring target B [] vs kept → AreKept ring target B [] vs kept)
+      pub AreKept-chosen : (vs kept : List Vector) → (AreKept ring B [] vs kept → AreChosen ring B [] vs kept) × (AreChosen ring B [] vs kept → AreKept ring B [] vs kept)
       AreKept-chosen vs kept =
           let same : HasSameSums [] [] = record { to = λ d ts h. h; from = λ d ts h. h } in
           (chosen_from_kept [] [] vs kept same, kept_from_chosen [] [] vs kept same)

@@ -50,14 +50,14 @@ all_vectors = record {
 no_unit : (ts : List (Term Place)) → HasDividedLead (x_row ∷ y_row ∷ []) ts → ts ≡ unit_row.terms → ⊥
 no_unit ts h e = let divided : HasDividedLead (x_row ∷ y_row ∷ []) unit_row.terms = subst (HasDividedLead (x_row ∷ y_row ∷ [])) e h in cc
 
-unit_needed : IsInSum (matrix_of (plain 101) (pos 0 ∷ []) []) (InSpan two_variables) unit_row → ⊥
+unit_needed : IsInSum (plain 101) [] (InSpan two_variables) unit_row → ⊥
 unit_needed h =
     no_unit h.first.terms (variables-span.complete h.first h.in_module)
     (sym (add-nil (place_cmp ones) (place_cmp_linear ones) 101 (omega arith) h.first.terms ((span_module two_variables (omega arith) variables-matrix).vectors h.first h.in_module).canonical)
     ∙ ap (add (place_cmp ones) 101 h.first.terms) (sym (span-no_rows (plain 101) (omega arith) (pos 0 ∷ []) h.second h.in_span))
     ∙ h.sum)
 
-generators : AreMinimal (plain 101) (pos 0 ∷ []) (IsAny (plain 101) (pos 0 ∷ [])) (InSpan two_variables) (unit_row ∷ [])
+generators : AreMinimal (plain 101) (IsAny (plain 101) (pos 0 ∷ [])) (InSpan two_variables) (unit_row ∷ [])
 generators = record { basis = unit_row ∷ []; reduced = all_vectors; kept = inr (unit_needed, ([], refl, refl)) }
 
 -- a relation of the unit vector is a vector of the span
@@ -72,7 +72,7 @@ relation_from_span v h =
 span_from_relation : (v : Vector) → IsRelation (identity (plain 101) (pos 0 ∷ [])) (InSpan two_variables) v → InSpan two_variables v
 span_from_relation v h = subst (InSpan two_variables) (unit_combined v h.coefficients) h.inside
 
-relations : AreMinimal (plain 101) (pos 0 ∷ []) (IsRelation (identity (plain 101) (pos 0 ∷ [])) (InSpan two_variables)) IsZero (x_row ∷ y_row ∷ [])
+relations : AreMinimal (plain 101) (IsRelation (identity (plain 101) (pos 0 ∷ [])) (InSpan two_variables)) IsZero (x_row ∷ y_row ∷ [])
 relations = record {
   basis = x_row ∷ y_row ∷ [];
   reduced = IsReducedBasis-same ones (InSpan two_variables) (IsRelation (identity (plain 101) (pos 0 ∷ [])) (InSpan two_variables)) relation_from_span span_from_relation (x_row ∷ y_row ∷ []) variables-span;

@@ -22,7 +22,7 @@ cycles : IsReducedBasis ones (IsCycle two_variables no_rows_below) (koszul_row �
 cycles = reduced-free_relations two_variables (omega arith) (pos 0 ∷ []) (koszul_row ∷ []) variables-syzygies
 
 -- the row is in its own span
-koszul_left_out : IsInSum (matrix_of (plain 101) (pos 1 ∷ pos 1 ∷ []) []) (InSpan koszul) koszul_row
+koszul_left_out : IsInSum (plain 101) [] (InSpan koszul) koszul_row
 unfolding add combination combination_terms normal insert sum_mod product_mod
 koszul_left_out = record {
   first = koszul_row;
@@ -34,7 +34,7 @@ koszul_left_out = record {
   sum = refl;
 }
 
-no_relations : (B : Vector → Type 0) → AreMinimal (plain 101) [] (IsRelation no_rows_between B) IsZero []
+no_relations : (B : Vector → Type 0) → AreMinimal (plain 101) (IsRelation no_rows_between B) IsZero []
 no_relations B = record { basis = []; reduced = reduced-no_rows (plain 101) (pos 1 ∷ pos 1 ∷ []) B; kept = refl }
 
 pub koszul-homology : HasNoKoszulHomology
@@ -48,7 +48,7 @@ koszul-homology = record {
 }
 
 -- modulo no rows a sum is one modulo 0
-sum_from_free : (v : Vector) → IsInSum (matrix_of (plain 101) (pos 1 ∷ pos 1 ∷ []) []) (InSpan no_rows_between) v → IsInSum (matrix_of (plain 101) (pos 1 ∷ pos 1 ∷ []) []) IsZero v
+sum_from_free : (v : Vector) → IsInSum (plain 101) [] (InSpan no_rows_between) v → IsInSum (plain 101) [] IsZero v
 sum_from_free v h = record {
   first = h.first;
   second = h.second;

@@ -66,28 +66,28 @@ pub variables-syzygies : IsReducedBasis ones (IsSyzygy two_variables) (koszul_ro
 variables-syzygies = reduced-syzygies two_variables (omega arith) rows reduced
 
 -- no row is a sum of the earlier ones
-x_needed : IsInSum (matrix_of (plain 101) (pos 0 ∷ []) []) IsZero x_row → ⊥
+x_needed : IsInSum (plain 101) [] IsZero x_row → ⊥
 x_needed = not_in_sum (plain 101) (omega arith) (pos 0 ∷ []) [] tt (λ i j h k e. absurd (omega (arith, k))) x_row (λ e. cc)
 
-y_needed : IsInSum (matrix_of (plain 101) (pos 0 ∷ []) (x_row ∷ [])) IsZero y_row → ⊥
+y_needed : IsInSum (plain 101) (x_row ∷ []) IsZero y_row → ⊥
 y_needed = not_in_sum (plain 101) (omega arith) (pos 0 ∷ []) (x_row ∷ []) (search arith) (λ i j h k e. absurd (omega (arith, h, k))) y_row (λ e. cc)
 
-pub koszul-needed : IsInSum (matrix_of (plain 101) (pos 1 ∷ pos 1 ∷ []) []) IsZero koszul_row → ⊥
+pub koszul-needed : IsInSum (plain 101) [] IsZero koszul_row → ⊥
 koszul-needed = not_in_sum (plain 101) (omega arith) (pos 1 ∷ pos 1 ∷ []) [] tt (λ i j h k e. absurd (omega (arith, k))) koszul_row (λ e. cc)
 
-pub variables-kept : AreKept (plain 101) (pos 0 ∷ []) IsZero [] (x_row ∷ y_row ∷ []) (x_row ∷ y_row ∷ [])
+pub variables-kept : AreKept (plain 101) IsZero [] (x_row ∷ y_row ∷ []) (x_row ∷ y_row ∷ [])
 variables-kept = inr (x_needed, (y_row ∷ [], refl, inr (y_needed, ([], refl, refl))))
 
-variables-minimal : AreMinimal (plain 101) (pos 0 ∷ []) (InSpan two_variables) IsZero (x_row ∷ y_row ∷ [])
+variables-minimal : AreMinimal (plain 101) (InSpan two_variables) IsZero (x_row ∷ y_row ∷ [])
 variables-minimal = record { basis = x_row ∷ y_row ∷ []; reduced = variables-span; kept = variables-kept }
 
-koszul_minimal : AreMinimal (plain 101) (pos 1 ∷ pos 1 ∷ []) (IsSyzygy two_variables) IsZero (koszul_row ∷ [])
+koszul_minimal : AreMinimal (plain 101) (IsSyzygy two_variables) IsZero (koszul_row ∷ [])
 koszul_minimal = record { basis = koszul_row ∷ []; reduced = variables-syzygies; kept = inr (koszul-needed, ([], refl, refl)) }
 
 pub koszul-end : IsReducedBasis ones (IsSyzygy koszul) []
 koszul-end = no_syzygies (plain 101) (omega arith) (pos 1 ∷ pos 1 ∷ []) koszul_row (search arith)
 
-end_minimal : AreMinimal (plain 101) (pos 2 ∷ []) (IsSyzygy koszul) IsZero []
+end_minimal : AreMinimal (plain 101) (IsSyzygy koszul) IsZero []
 end_minimal = record { basis = []; reduced = koszul-end; kept = refl }
 
 pub koszul-resolution : HasKoszulResolution

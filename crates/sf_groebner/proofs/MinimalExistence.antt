@@ -16,15 +16,15 @@ use Rattle.sf_groebner.proofs.SumDecisions.{decide_sum_span, decide_sum_zero}
 pub record MinimalVectors (ring : Ring) (target : List ℤ) (N B : Vector → Type 0) : Type 0 where
   pub generators : List Vector
   pub vectors : AllByRecursion (IsVector ring target) generators
-  pub minimal : AreMinimal ring target N B generators
+  pub minimal : AreMinimal ring N B generators
 
 module _ (ring : Ring) (target : List ℤ) where
   -- whether a vector is in B plus a span is decided
   abbrev DecidesSums : (Vector → Type 0) → Type 0
-  DecidesSums B = (earlier : List Vector) → AllByRecursion (IsVector ring target) earlier → (v : Vector) → IsVector ring target v → IsDecided (IsInSum (matrix_of ring target earlier) B v)
+  DecidesSums B = (earlier : List Vector) → AllByRecursion (IsVector ring target) earlier → (v : Vector) → IsVector ring target v → IsDecided (IsInSum ring earlier B v)
 
   kept_exists : (B : Vector → Type 0) → DecidesSums B → (earlier vs : List Vector) → AllByRecursion (IsVector ring target) earlier → AllByRecursion (IsVector ring target) vs
-      → (kept : List Vector) × AllByRecursion (IsVector ring target) kept × AreKept ring target B earlier vs kept
+      → (kept : List Vector) × AllByRecursion (IsVector ring target) kept × AreKept ring B earlier vs kept
   kept_exists B decide earlier [] h k = ([], tt, refl)
   kept_exists B decide earlier (v ∷ vs) h k =
       let rest = kept_exists B decide (earlier ++ v ∷ []) vs (AllByRecursion-append (IsVector ring target) earlier (v ∷ []) h (k.0, tt)) k.1 in

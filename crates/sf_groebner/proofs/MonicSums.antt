@@ -26,14 +26,14 @@ module _ (ring : Ring) (positive : IsRing ring) where
     span_lead : (v : Vector) → InSpan (matrix_of ring target rows) v → HasDividedLead rows v.terms
     span_lead v h = subst (λ (w : Vector). HasDividedLead rows w.terms) h.value (buchberger ring positive rows monic pairs h.coefficients.terms (IsWithin-coefficients (matrix_of ring target rows) h.coefficients h.homogeneous))
 
-    sum-zero_first : (v : Vector) (h : IsInSum (matrix_of ring target rows) IsZero v) → h.second.terms ≡ v.terms
+    sum-zero_first : (v : Vector) (h : IsInSum ring rows IsZero v) → h.second.terms ≡ v.terms
     sum-zero_first v h =
         sym (row_sum-nil_first ring positive.modulus h.second.terms
         (subst (λ (w : Vector). IsCanonicalRow ring w.terms) h.in_span.value (IsCanonical-row_combination ring positive.modulus rows h.in_span.coefficients.terms)))
         ∙ ap (λ us. row_sum ring us h.second.terms) (sym h.in_module)
         ∙ h.sum
 
-    pub not_in_sum : (v : Vector) → (HasDividedLead rows v.terms → ⊥) → IsInSum (matrix_of ring target rows) IsZero v → ⊥
+    pub not_in_sum : (v : Vector) → (HasDividedLead rows v.terms → ⊥) → IsInSum ring rows IsZero v → ⊥
     not_in_sum v none h = none (subst (HasDividedLead rows) (sum-zero_first v h) (span_lead h.second h.in_span))
 
   -- combinations of no rows have no lead

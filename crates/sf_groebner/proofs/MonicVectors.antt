@@ -6,6 +6,7 @@ use Rattle.std.proofs.lemmas.Int.{ints}
 use Rattle.std.proofs.lemmas.List.{length-map}
 use Rattle.std.specs.List.{AllByRecursion}
 use Rattle.sf_algebra.specs.Divisibility.{quotient}
+use Rattle.sf_algebra.specs.Matrices.{degrees_of}
 use Rattle.sf_algebra.specs.MatrixOperations.{row_at, row_combination}
 use Rattle.sf_algebra.specs.Monomials.{monomial_degree}
 use Rattle.sf_algebra.specs.Multiples.{place_product, term_product}
@@ -13,7 +14,7 @@ use Rattle.sf_algebra.specs.Primes.{IsPrime}
 use Rattle.sf_algebra.specs.Rings.{Ring, IsOverField}
 use Rattle.sf_algebra.specs.Terms.{Term, IsNonzeroResidue}
 use Rattle.sf_algebra.specs.Vectors.{Place, Vector, generator_degree, place_degree, IsTermOfDegree, IsHomogeneous, IsVector}
-use Rattle.sf_algebra.proofs.Degrees.{degrees_of, HasHomogeneousRows}
+use Rattle.sf_algebra.proofs.Degrees.{HasHomogeneousRows}
 use Rattle.sf_algebra.proofs.Divisors.{product-quotient}
 use Rattle.sf_algebra.proofs.Keys.{place_keys}
 use Rattle.sf_algebra.proofs.Lists.{AllByRecursion-weaken}

@@ -24,8 +24,8 @@ unique_presentation ring positive target degrees N B one module_like g r h s a b
     let generators : g ≡ h =
     λ i. record { ring = (a.generators_ring ∙ sym b.generators_ring) i; target = (a.generators_target ∙ sym b.generators_target) i; rows = rows i } in
     let relations_module = relation_module g (subst (λ q. IsRing q) (sym a.generators_ring) positive) degrees B (subst (λ q. IsModuleLike q degrees B) (sym a.generators_ring) module_like) in
-    let other : AreMinimal ring (row_degrees g) (IsRelation g B) IsZero s.rows =
-    subst (λ x. AreMinimal ring (row_degrees x) (IsRelation x B) IsZero s.rows) (sym generators) b.relations_minimal in
+    let other : AreMinimal ring (IsRelation g B) IsZero s.rows =
+    subst (λ x. AreMinimal ring (IsRelation x B) IsZero s.rows) (sym generators) b.relations_minimal in
     let relations : r.rows ≡ s.rows =
     unique_minimal ring (row_degrees g) (IsRelation g B) IsZero
     (subst (λ (q : Ring). HasOneBasis q.weights (IsRelation g B)) a.generators_ring

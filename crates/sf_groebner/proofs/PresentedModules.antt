@@ -14,16 +14,16 @@ use Rattle.sf_groebner.proofs.Spans.{span_module}
 
 module _ (ring : Ring) (target : List ℤ) (N B : Vector → Type 0) where
   -- what holds of each vector holds of those kept
-  AllByRecursion-kept : (earlier vs kept : List Vector) → AllByRecursion N vs → AreKept ring target B earlier vs kept → AllByRecursion N kept
+  AllByRecursion-kept : (earlier vs kept : List Vector) → AllByRecursion N vs → AreKept ring B earlier vs kept → AllByRecursion N kept
   AllByRecursion-kept earlier [] kept h k = subst (AllByRecursion N) (sym k) tt
   AllByRecursion-kept earlier (v ∷ vs) kept h (inl k) = AllByRecursion-kept (earlier ++ v ∷ []) vs kept h.1 k.1
   AllByRecursion-kept earlier (v ∷ vs) kept h (inr k) = subst (AllByRecursion N) (sym k.1.1) (h.0, AllByRecursion-kept (earlier ++ v ∷ []) vs k.1.0 h.1 k.1.2)
 
   -- minimal generators are in the module
-  pub minimal-inside : (generators : List Vector) → AreMinimal ring target N B generators → AllByRecursion N generators
+  pub minimal-inside : (generators : List Vector) → AreMinimal ring N B generators → AllByRecursion N generators
   minimal-inside generators h = AllByRecursion-kept [] h.basis generators h.reduced.inside h.kept
 
-  pub minimal-vectors : (degrees : List ℤ) → ((v : Vector) → N v → IsVector ring degrees v) → (generators : List Vector) → AreMinimal ring target N B generators → AllByRecursion (IsVector ring degrees) generators
+  pub minimal-vectors : (degrees : List ℤ) → ((v : Vector) → N v → IsVector ring degrees v) → (generators : List Vector) → AreMinimal ring N B generators → AllByRecursion (IsVector ring degrees) generators
   minimal-vectors degrees vectors generators h = AllByRecursion-weaken N (IsVector ring degrees) vectors generators (minimal-inside generators h)
 
 -- a matrix from what its parts are

@@ -14,31 +14,31 @@ use Rattle.sf_groebner.proofs.Spans.{span_module}
 use Rattle.sf_groebner.proofs.MinimalGenerators.{unique_minimal}
 use Rattle.sf_groebner.proofs.UniqueBases.{unique_reduced}
 
-first_needed : IsInSum (matrix_of (plain 101) (pos 0 ∷ []) []) IsZero first_row → ⊥
+first_needed : IsInSum (plain 101) [] IsZero first_row → ⊥
 first_needed = not_in_sum (plain 101) (omega arith) (pos 0 ∷ []) [] tt (λ i j h k e. absurd (omega (arith, k))) first_row (λ e. cc)
 
-second_needed : IsInSum (matrix_of (plain 101) (pos 0 ∷ []) (first_row ∷ [])) IsZero second_row → ⊥
+second_needed : IsInSum (plain 101) (first_row ∷ []) IsZero second_row → ⊥
 second_needed = not_in_sum (plain 101) (omega arith) (pos 0 ∷ []) (first_row ∷ []) (search arith) (λ i j h k e. absurd (omega (arith, h, k))) second_row (λ e. cc)
 
 -- y^3 is in the span of the rows before it
-third_left_out : IsInSum quadrics IsZero third_row
+third_left_out : IsInSum quadrics.ring quadrics.rows IsZero third_row
 unfolding add normal insert
 third_left_out = record { first = vector 3 []; second = third_row; in_module = refl; in_span = quadrics-span.inside.1.1.0; first_degree = refl; second_degree = refl; sum = refl }
 
-syzygy_needed : IsInSum (matrix_of (plain 101) (pos 2 ∷ pos 2 ∷ []) []) IsZero quadrics_syzygy → ⊥
+syzygy_needed : IsInSum (plain 101) [] IsZero quadrics_syzygy → ⊥
 syzygy_needed = not_in_sum (plain 101) (omega arith) (pos 2 ∷ pos 2 ∷ []) [] tt (λ i j h k e. absurd (omega (arith, k))) quadrics_syzygy (λ e. cc)
 
-quadrics_minimal : AreMinimal (plain 101) (pos 0 ∷ []) (InSpan quadrics) IsZero (first_row ∷ second_row ∷ [])
+quadrics_minimal : AreMinimal (plain 101) (InSpan quadrics) IsZero (first_row ∷ second_row ∷ [])
 quadrics_minimal = record {
   basis = quadrics_basis;
   reduced = quadrics-span;
   kept = inr (first_needed, (second_row ∷ [], refl, inr (second_needed, ([], refl, inl (third_left_out, refl)))));
 }
 
-syzygies_minimal : AreMinimal (plain 101) (pos 2 ∷ pos 2 ∷ []) (IsSyzygy quadrics) IsZero (quadrics_syzygy ∷ [])
+syzygies_minimal : AreMinimal (plain 101) (IsSyzygy quadrics) IsZero (quadrics_syzygy ∷ [])
 syzygies_minimal = record { basis = quadrics_syzygy ∷ []; reduced = quadrics-syzygies; kept = inr (syzygy_needed, ([], refl, refl)) }
 
-end_minimal : AreMinimal (plain 101) (pos 4 ∷ []) (IsSyzygy quadrics_syzygies) IsZero []
+end_minimal : AreMinimal (plain 101) (IsSyzygy quadrics_syzygies) IsZero []
 end_minimal = record { basis = []; reduced = no_syzygies (plain 101) (omega arith) (pos 2 ∷ pos 2 ∷ []) quadrics_syzygy (search arith); kept = refl }
 
 pub quadrics-resolution : HasQuadricsResolution

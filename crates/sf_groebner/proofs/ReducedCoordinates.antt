@@ -48,7 +48,7 @@ zero_submodule ring positive target = record {
 
 module _ (m : Matrix) (positive : IsRing m.ring) where
   -- a sum with 0 is in the span
-  pub InSpan-sum : (v : Vector) → IsInSum m IsZero v → InSpan m v
+  pub InSpan-sum : (v : Vector) → IsInSum m.ring m.rows IsZero v → InSpan m v
   InSpan-sum v h =
       let canonical : IsCanonicalRow m.ring h.second.terms =
       subst (λ (x : Vector). IsCanonicalRow m.ring x.terms) (h.in_span).value (IsCanonical-row_combination m.ring positive.modulus m.rows ((h.in_span).coefficients).terms) in
@@ -58,7 +58,7 @@ module _ (m : Matrix) (positive : IsRing m.ring) where
       ∙ h.sum in
       subst (InSpan m) (λ i. record { degree = h.second_degree i; terms = terms i }) h.in_span
 
-  pub IsInSum-span : (v : Vector) → InSpan m v → IsInSum m IsZero v
+  pub IsInSum-span : (v : Vector) → InSpan m v → IsInSum m.ring m.rows IsZero v
   IsInSum-span v h = record {
     first = record { degree = v.degree; terms = [] };
     second = v;
@@ -71,7 +71,7 @@ module _ (m : Matrix) (positive : IsRing m.ring) where
   }
 
 -- minimal generators modulo 0 span the module
-module _ (ring : Ring) (prime : IsOverField ring) (target : List ℤ) (N : Vector → Type 0) (submodule : IsSubmodule ring target N) (generators : List Vector) (minimal : AreMinimal ring target N IsZero generators) where
+module _ (ring : Ring) (prime : IsOverField ring) (target : List ℤ) (N : Vector → Type 0) (submodule : IsSubmodule ring target N) (generators : List Vector) (minimal : AreMinimal ring N IsZero generators) where
   pub InSpan-minimal : (v : Vector) → N v → InSpan (matrix_of ring target generators) v
   InSpan-minimal v h =
       let positive : IsRing ring = field_ring prime in
@@ -85,7 +85,7 @@ module _ (ring : Ring) (prime : IsOverField ring) (target : List ℤ) (N : Vecto
       v (IsInSum-span (matrix_of ring target generators) positive v h)
 
 -- a matrix of relations of generators modulo the span of base, minimal modulo 0
-module _ (generators base relations : Matrix) (prime : IsOverField generators.ring) (rings : generators.ring ≡ base.ring) (is_matrix : IsMatrix base) (same_ring : relations.ring ≡ generators.ring) (same_target : relations.target ≡ row_degrees generators) (minimal : AreMinimal generators.ring (row_degrees generators) (IsRelation generators (InSpan base)) IsZero relations.rows) where
+module _ (generators base relations : Matrix) (prime : IsOverField generators.ring) (rings : generators.ring ≡ base.ring) (is_matrix : IsMatrix base) (same_ring : relations.ring ≡ generators.ring) (same_target : relations.target ≡ row_degrees generators) (minimal : AreMinimal generators.ring (IsRelation generators (InSpan base)) IsZero relations.rows) where
   relations_positive : IsRing generators.ring
   relations_positive = field_ring prime
 

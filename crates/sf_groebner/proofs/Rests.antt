@@ -1,6 +1,6 @@
 -- The one rest of a vector by the reduced basis of a span, which is none exactly where the vector is in the span.
 use Rattle.std.proofs.Common.{◌≡◌, ◌↔◌, ℕ, ◌<◌, List, [], refl, sym, ◌∙◌, ap, subst, arith}
-use Rattle.sf_algebra.specs.Matrices.{Matrix, IsMatrix}
+use Rattle.sf_algebra.specs.Matrices.{Matrix, IsMatrix, degrees_of}
 use Rattle.sf_algebra.specs.MatrixOperations.{row_combination}
 use Rattle.sf_algebra.specs.Multiples.{negative}
 use Rattle.sf_algebra.specs.Primes.{IsPrime}
@@ -9,7 +9,7 @@ use Rattle.sf_algebra.specs.Sums.{add, normal}
 use Rattle.sf_algebra.specs.Terms.{Term, IsCanonical}
 use Rattle.sf_algebra.specs.VectorOperations.{row_sum, vector_difference}
 use Rattle.sf_algebra.specs.Vectors.{Place, Vector, place_cmp, IsVector, IsCanonicalRow}
-use Rattle.sf_algebra.proofs.Degrees.{degrees_of, IsHomogeneous-normal}
+use Rattle.sf_algebra.proofs.Degrees.{IsHomogeneous-normal}
 use Rattle.sf_algebra.proofs.Keys.{place_keys}
 use Rattle.sf_algebra.proofs.Normal.{IsCanonical-normal}
 use Rattle.sf_algebra.proofs.Orders.{place_cmp_linear}

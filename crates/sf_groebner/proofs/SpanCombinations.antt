@@ -1,7 +1,7 @@
 -- Spans, relations and syzygies are closed under combinations.
 use Rattle.std.proofs.Common.{◌≡◌, ℕ, ◌<◌, List, [], ◌∷◌, refl, sym, ◌∙◌, ap, subst, ℤ}
 use Rattle.std.specs.List.{AllByRecursion}
-use Rattle.sf_algebra.specs.Matrices.{Matrix, row_degrees, IsMatrix}
+use Rattle.sf_algebra.specs.Matrices.{Matrix, row_degrees, IsMatrix, degrees_of}
 use Rattle.sf_algebra.specs.MatrixOperations.{row_at, row_combination}
 use Rattle.sf_algebra.specs.Multiples.{negative}
 use Rattle.sf_algebra.specs.Rings.{Ring, IsRing}
@@ -9,7 +9,7 @@ use Rattle.sf_algebra.specs.Sums.{normal, add}
 use Rattle.sf_algebra.specs.Terms.{Term}
 use Rattle.sf_algebra.specs.VectorOperations.{row_sum}
 use Rattle.sf_algebra.specs.Vectors.{Place, Vector, place_cmp, IsHomogeneous}
-use Rattle.sf_algebra.proofs.Degrees.{degrees_of, IsHomogeneous-normal, IsHomogeneous-row_combination}
+use Rattle.sf_algebra.proofs.Degrees.{IsHomogeneous-normal, IsHomogeneous-row_combination}
 use Rattle.sf_algebra.proofs.Keys.{place_keys}
 use Rattle.sf_algebra.proofs.Lists.{AllByRecursion-weaken}
 use Rattle.sf_algebra.proofs.MatrixRows.{with_terms}

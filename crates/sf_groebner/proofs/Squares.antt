@@ -63,7 +63,7 @@ module _ (upper upper_relations lower lower_relations left right : Matrix) (squa
   }
 
   -- what is the sum of a relation and what the upper map gives
-  square-sum : (v : Vector) → IsInSum upper (InSpan upper_relations) v → IsInSum lower (InSpan lower_relations) (combined right v)
+  square-sum : (v : Vector) → IsInSum upper.ring upper.rows (InSpan upper_relations) v → IsInSum lower.ring lower.rows (InSpan lower_relations) (combined right v)
   square-sum v h =
       let c : Vector = h.in_span.coefficients in
       let degree : c.degree ≡ v.degree = ap (λ x. x.degree) h.in_span.value ∙ h.second_degree in

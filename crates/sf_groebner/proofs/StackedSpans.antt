@@ -52,7 +52,7 @@ module _ (a b : Matrix) where
         ∙ ap (row_combination a.ring (a.rows ++ b.rows)) (paired_terms-parts a.ring.weights (length a.rows) (length b.rows) c.terms h.canonical.descending within)
 
     module _ (rings : a.ring ≡ b.ring) where
-      pub InSpan-stacked : (v : Vector) → InSpan (stacked a b) v → IsInSum a (InSpan b) v
+      pub InSpan-stacked : (v : Vector) → InSpan (stacked a b) v → IsInSum a.ring a.rows (InSpan b) v
       InSpan-stacked v h =
           let c : Vector = h.coefficients in
           let first = vector_part 0 (length a.rows) c in
@@ -71,7 +71,7 @@ module _ (a b : Matrix) where
                 ∙ ap (λ x. x.terms) h.value;
           }
 
-      pub InSpan-stacked_sum : (v : Vector) → IsInSum a (InSpan b) v → InSpan (stacked a b) v
+      pub InSpan-stacked_sum : (v : Vector) → IsInSum a.ring a.rows (InSpan b) v → InSpan (stacked a b) v
       InSpan-stacked_sum v h =
           let ring = a.ring in
           let c : Vector = h.in_span.coefficients in

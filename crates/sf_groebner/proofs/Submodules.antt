@@ -2,6 +2,7 @@
 use Rattle.std.proofs.Common.{◌≡◌, ℕ, ◌<◌, List, [], ◌∷◌, map, refl, sym, ◌∙◌, ap, subst, arith, ℤ}
 use Rattle.std.proofs.lemmas.Int.{ints}
 use Rattle.std.specs.List.{AllByRecursion}
+use Rattle.sf_algebra.specs.Matrices.{degrees_of}
 use Rattle.sf_algebra.specs.MatrixOperations.{row_combination}
 use Rattle.sf_algebra.specs.Monomials.{one}
 use Rattle.sf_algebra.specs.Multiples.{place_product, term_product, negative}
@@ -11,7 +12,6 @@ use Rattle.sf_algebra.specs.Sums.{add}
 use Rattle.sf_algebra.specs.Terms.{Term, IsNonzeroResidue}
 use Rattle.sf_algebra.specs.VectorOperations.{row_sum}
 use Rattle.sf_algebra.specs.Vectors.{Place, Vector, place_cmp, IsHomogeneous}
-use Rattle.sf_algebra.proofs.Degrees.{degrees_of}
 use Rattle.sf_algebra.proofs.Inverses.{inverse_exists, inverse_nonzero}
 use Rattle.sf_algebra.proofs.Keys.{place_keys}
 use Rattle.sf_algebra.proofs.Places.{place_product-one}

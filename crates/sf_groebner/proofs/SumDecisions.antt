@@ -2,7 +2,7 @@
 use Rattle.std.proofs.Common.{◌≡◌, inl, inr, ℕ, ◌+◌, ◌<◌, ◌≤◌, List, [], ◌∷◌, ◌++◌, length, refl, sym, ◌∙◌, ap, subst, arith, ℤ}
 use Rattle.std.proofs.lemmas.List.{length-append, length-map, map-append}
 use Rattle.std.specs.List.{AllByRecursion}
-use Rattle.sf_algebra.specs.Matrices.{Matrix, IsMatrix}
+use Rattle.sf_algebra.specs.Matrices.{Matrix, IsMatrix, degrees_of}
 use Rattle.sf_algebra.specs.MatrixOperations.{part_terms, row_combination, vector_part}
 use Rattle.sf_algebra.specs.Primes.{IsPrime}
 use Rattle.sf_algebra.specs.Rings.{Ring, IsRing, IsOverField}
@@ -10,7 +10,6 @@ use Rattle.sf_algebra.specs.Sums.{add}
 use Rattle.sf_algebra.specs.Terms.{Term}
 use Rattle.sf_algebra.specs.VectorOperations.{row_sum}
 use Rattle.sf_algebra.specs.Vectors.{Place, Vector, place_cmp, IsVector}
-use Rattle.sf_algebra.proofs.Degrees.{degrees_of}
 use Rattle.sf_algebra.proofs.Lists.{AllByRecursion-append, AllByRecursion-weaken}
 use Rattle.sf_algebra.proofs.MatrixRows.{IsWithin}
 use Rattle.sf_algebra.proofs.Orders.{place_cmp_linear}
@@ -51,7 +50,7 @@ module _ (ring : Ring) (positive : IsRing ring) (target : List ℤ) (earlier row
   length-degrees_of vs = length-map vs (λ (v : Vector). v.degree)
 
   -- a sum of combinations of two lists of rows is a combination of all rows
-  pub InSpan-IsInSum : (v : Vector) → IsInSum (matrix_of ring target earlier) (InSpan (matrix_of ring target rows)) v → InSpan (matrix_of ring target (earlier ++ rows)) v
+  pub InSpan-IsInSum : (v : Vector) → IsInSum ring earlier (InSpan (matrix_of ring target rows)) v → InSpan (matrix_of ring target (earlier ++ rows)) v
   InSpan-IsInSum v h =
       let s = IsSumAt-from ring target (InSpan (matrix_of ring target rows)) earlier v h in
       let n = length earlier in
@@ -74,7 +73,7 @@ module _ (ring : Ring) (positive : IsRing ring) (target : List ℤ) (earlier row
       }
 
   -- and the other way round
-  pub IsInSum-InSpan : (v : Vector) → InSpan (matrix_of ring target (earlier ++ rows)) v → IsInSum (matrix_of ring target earlier) (InSpan (matrix_of ring target rows)) v
+  pub IsInSum-InSpan : (v : Vector) → InSpan (matrix_of ring target (earlier ++ rows)) v → IsInSum ring earlier (InSpan (matrix_of ring target rows)) v
   IsInSum-InSpan v h =
       let n = length earlier in
       let end = n + length rows in
@@ -103,16 +102,16 @@ module _ (ring : Ring) (positive : IsRing ring) (target : List ℤ) (earlier row
       IsSumAt-to ring target (InSpan (matrix_of ring target rows)) earlier v (subst (λ (w : Vector). IsSumAt ring target (InSpan (matrix_of ring target rows)) earlier w.degree w.terms) h.value sum)
 
 module _ (ring : Ring) (prime : IsOverField ring) (target : List ℤ) (earlier : List Vector) (matrix : AllByRecursion (IsVector ring target) earlier) (v : Vector) (vector : IsVector ring target v) where
-  pub decide_sum_zero : IsDecided (IsInSum (matrix_of ring target earlier) IsZero v)
+  pub decide_sum_zero : IsDecided (IsInSum ring earlier IsZero v)
   decide_sum_zero =
       let positive : IsRing ring = field_ring prime in
-      decide_from (InSpan (matrix_of ring target earlier) v) (IsInSum (matrix_of ring target earlier) IsZero v)
+      decide_from (InSpan (matrix_of ring target earlier) v) (IsInSum ring earlier IsZero v)
       (IsInSum-span (matrix_of ring target earlier) positive v) (InSpan-sum (matrix_of ring target earlier) positive v)
       (decide_span (matrix_of ring target earlier) prime matrix v vector)
 
-  pub decide_sum_span : (rows : List Vector) → AllByRecursion (IsVector ring target) rows → IsDecided (IsInSum (matrix_of ring target earlier) (InSpan (matrix_of ring target rows)) v)
+  pub decide_sum_span : (rows : List Vector) → AllByRecursion (IsVector ring target) rows → IsDecided (IsInSum ring earlier (InSpan (matrix_of ring target rows)) v)
   decide_sum_span rows other =
       let positive : IsRing ring = field_ring prime in
-      decide_from (InSpan (matrix_of ring target (earlier ++ rows)) v) (IsInSum (matrix_of ring target earlier) (InSpan (matrix_of ring target rows)) v)
+      decide_from (InSpan (matrix_of ring target (earlier ++ rows)) v) (IsInSum ring earlier (InSpan (matrix_of ring target rows)) v)
       (IsInSum-InSpan ring positive target earlier rows v) (InSpan-IsInSum ring positive target earlier rows v)
       (decide_span (matrix_of ring target (earlier ++ rows)) prime (AllByRecursion-append (IsVector ring target) earlier rows matrix other) v vector)

@@ -30,7 +30,7 @@ abbrev pub HasSpanningRelations : Type 0
 HasSpanningRelations =
     (generators base relations : Matrix) → IsOverField generators.ring → generators.ring ≡ base.ring → IsMatrix base
     → relations.ring ≡ generators.ring → relations.target ≡ row_degrees generators
-    → AreMinimal generators.ring (row_degrees generators) (IsRelation generators (InSpan base)) IsZero relations.rows
+    → AreMinimal generators.ring (IsRelation generators (InSpan base)) IsZero relations.rows
     → (c : Vector) → IsRelation generators (InSpan base) c ↔ InSpan relations c
 
 -- the first block of a lift over generators and base, the coordinates, is reduced by such relations
@@ -38,7 +38,7 @@ abbrev pub HasReducedCoordinates : Type 0
 HasReducedCoordinates =
     (generators base relations : Matrix) → IsOverField generators.ring → generators.ring ≡ base.ring → IsMatrix base
     → relations.ring ≡ generators.ring → relations.target ≡ row_degrees generators
-    → AreMinimal generators.ring (row_degrees generators) (IsRelation generators (InSpan base)) IsZero relations.rows
+    → AreMinimal generators.ring (IsRelation generators (InSpan base)) IsZero relations.rows
     → (v c : Vector) → IsLift (stacked generators base) v c → IsReducedByRelations relations (vector_part 0 (length generators.rows) c)
 
 -- vectors of one degree that are reduced by relations and differ by one of their span are equal

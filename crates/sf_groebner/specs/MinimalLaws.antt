@@ -9,38 +9,38 @@ use Rattle.sf_groebner.specs.Presentations.{IsZero, IsRelation}
 use Rattle.sf_groebner.specs.Spans.{InSpan}
 
 -- kept are those of the vectors, in order, that aren't in B plus the span of the vectors kept before
-abbrev pub AreChosen : Ring → List ℤ → (Vector → Type 0) → List Vector → List Vector → List Vector → Type 0
-AreChosen ring target B before [] kept = kept ≡ []
-AreChosen ring target B before (v ∷ vs) kept =
-    (IsInSum (matrix_of ring target before) B v × AreChosen ring target B before vs kept)
-    ⊎ ((IsInSum (matrix_of ring target before) B v → ⊥) × ((others : List Vector) × (kept ≡ v ∷ others) × AreChosen ring target B (before ++ v ∷ []) vs others))
+abbrev pub AreChosen : Ring → (Vector → Type 0) → List Vector → List Vector → List Vector → Type 0
+AreChosen ring B before [] kept = kept ≡ []
+AreChosen ring B before (v ∷ vs) kept =
+    (IsInSum ring before B v × AreChosen ring B before vs kept)
+    ⊎ ((IsInSum ring before B v → ⊥) × ((others : List Vector) × (kept ≡ v ∷ others) × AreChosen ring B (before ++ v ∷ []) vs others))
 
 -- modulo a span, the vectors kept before do as well as all vectors before
 abbrev pub ChoosesModuloSpan : Type 0
 ChoosesModuloSpan =
     (base : Matrix) → IsRing base.ring → IsMatrix base → (vs kept : List Vector)
-    → AreKept base.ring base.target (InSpan base) [] vs kept ↔ AreChosen base.ring base.target (InSpan base) [] vs kept
+    → AreKept base.ring (InSpan base) [] vs kept ↔ AreChosen base.ring (InSpan base) [] vs kept
 
 -- modulo 0 too
 abbrev pub ChoosesModuloZero : Type 0
 ChoosesModuloZero =
-    (ring : Ring) → IsRing ring → (target : List ℤ) (vs kept : List Vector) → AreKept ring target IsZero [] vs kept ↔ AreChosen ring target IsZero [] vs kept
+    (ring : Ring) → IsRing ring → (vs kept : List Vector) → AreKept ring IsZero [] vs kept ↔ AreChosen ring IsZero [] vs kept
 
 -- a span modulo another one has at most one list of minimal generators
 abbrev pub HasOneMinimalSpan : Type 0
 HasOneMinimalSpan =
     (m base : Matrix) → IsRing m.ring → IsMatrix m → (a b : List Vector)
-    → AreMinimal m.ring m.target (InSpan m) (InSpan base) a → AreMinimal m.ring m.target (InSpan m) (InSpan base) b → a ≡ b
+    → AreMinimal m.ring (InSpan m) (InSpan base) a → AreMinimal m.ring (InSpan m) (InSpan base) b → a ≡ b
 
 -- so have the relations of vectors modulo a span, modulo 0
 abbrev pub HasOneMinimalRelations : Type 0
 HasOneMinimalRelations =
     (m base : Matrix) → IsRing m.ring → m.ring ≡ base.ring → IsMatrix base → (a b : List Vector)
-    → AreMinimal m.ring (row_degrees m) (IsRelation m (InSpan base)) IsZero a → AreMinimal m.ring (row_degrees m) (IsRelation m (InSpan base)) IsZero b → a ≡ b
+    → AreMinimal m.ring (IsRelation m (InSpan base)) IsZero a → AreMinimal m.ring (IsRelation m (InSpan base)) IsZero b → a ≡ b
 
 -- each vector of the span is the sum of one of the other and a combination of the minimal generators
 abbrev pub GeneratesSpan : Type 0
 GeneratesSpan =
     (m base : Matrix) → IsOverField m.ring → m.ring ≡ base.ring → m.target ≡ base.target → IsMatrix m → IsMatrix base → (generators : List Vector)
-    → AreMinimal m.ring m.target (InSpan m) (InSpan base) generators
-    → (v : Vector) → InSpan m v → IsInSum (matrix_of m.ring m.target generators) (InSpan base) v
+    → AreMinimal m.ring (InSpan m) (InSpan base) generators
+    → (v : Vector) → InSpan m v → IsInSum m.ring generators (InSpan base) v

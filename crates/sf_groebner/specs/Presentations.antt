@@ -21,10 +21,10 @@ pub record IsRelation (generators : Matrix) (B : Vector → Type 0) (c : Vector)
 pub record IsPresentation (ring : Ring) (target : List ℤ) (N B : Vector → Type 0) (generators relations : Matrix) : Type 0 where
   pub generators_ring : generators.ring ≡ ring
   pub generators_target : generators.target ≡ target
-  pub generators_minimal : AreMinimal ring target N B generators.rows
+  pub generators_minimal : AreMinimal ring N B generators.rows
   pub relations_ring : relations.ring ≡ ring
   pub relations_target : relations.target ≡ row_degrees generators
-  pub relations_minimal : AreMinimal ring (row_degrees generators) (IsRelation generators B) IsZero relations.rows
+  pub relations_minimal : AreMinimal ring (IsRelation generators B) IsZero relations.rows
 
 -- a matrix is a map from the module with the relations `source` to that with the relations `target`: the free modules meet, and it
 -- sends relations into relations

@@ -36,7 +36,7 @@ HasKoszulResolution = IsResolution two_variables (two_variables ∷ koszul ∷ k
 
 -- both variables are needed
 abbrev pub RefusesOneVariable : Type 0
-RefusesOneVariable = AreMinimal (plain 101) (pos 0 ∷ []) (InSpan two_variables) IsZero (x_row ∷ []) → ⊥
+RefusesOneVariable = AreMinimal (plain 101) (InSpan two_variables) IsZero (x_row ∷ []) → ⊥
 
 abbrev pub quadrics_syzygies : Matrix
 quadrics_syzygies = record { ring = plain 101; target = pos 2 ∷ pos 2 ∷ []; rows = quadrics_syzygy ∷ [] }
@@ -50,4 +50,4 @@ HasQuadricsResolution = IsResolution quadrics (quadrics ∷ quadrics_syzygies �
 
 -- with y^3 the generators aren't minimal
 abbrev pub RefusesThirdRow : Type 0
-RefusesThirdRow = AreMinimal (plain 101) (pos 0 ∷ []) (InSpan quadrics) IsZero (first_row ∷ second_row ∷ third_row ∷ []) → ⊥
+RefusesThirdRow = AreMinimal (plain 101) (InSpan quadrics) IsZero (first_row ∷ second_row ∷ third_row ∷ []) → ⊥

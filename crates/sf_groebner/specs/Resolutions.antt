@@ -10,13 +10,13 @@ use Rattle.sf_groebner.specs.Spans.{InSpan, IsSyzygy}
 pub record IsFirstStep (relations step : Matrix) : Type 0 where
   pub ring : step.ring ≡ relations.ring
   pub target : step.target ≡ relations.target
-  pub minimal : AreMinimal relations.ring relations.target (InSpan relations) IsZero step.rows
+  pub minimal : AreMinimal relations.ring (InSpan relations) IsZero step.rows
 
 -- a further step: the minimal generators of the syzygies of the one before
 pub record IsNextStep (before step : Matrix) : Type 0 where
   pub ring : step.ring ≡ before.ring
   pub target : step.target ≡ row_degrees before
-  pub minimal : AreMinimal before.ring (row_degrees before) (IsSyzygy before) IsZero step.rows
+  pub minimal : AreMinimal before.ring (IsSyzygy before) IsZero step.rows
 
 -- each step follows from the one before
 abbrev pub AreNextSteps : Matrix → List Matrix → Type 0

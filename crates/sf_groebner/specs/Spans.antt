@@ -1,7 +1,8 @@
 -- Spans, syzygies and graphs of a matrix. (Cox, Little, O'Shea, "Using Algebraic Geometry", chapter 5, sections 1 and 3.)
 use Rattle.std.specs.Prelude.{◌≡◌, ◌+◌, List, [], ◌++◌, length, ℤ}
-use Rattle.sf_algebra.specs.Matrices.{Matrix, row_degrees}
+use Rattle.sf_algebra.specs.Matrices.{Matrix, row_degrees, degrees_of}
 use Rattle.sf_algebra.specs.MatrixOperations.{row_combination, part_terms}
+use Rattle.sf_algebra.specs.Rings.{Ring}
 use Rattle.sf_algebra.specs.Terms.{Term}
 use Rattle.sf_algebra.specs.Vectors.{Place, Vector, IsVector}
 
@@ -9,15 +10,23 @@ use Rattle.sf_algebra.specs.Vectors.{Place, Vector, IsVector}
 abbrev pub IsCoefficients : Matrix → Vector → Type 0
 IsCoefficients m c = IsVector m.ring (row_degrees m) c
 
--- c M as a vector, of the degree of c
+-- the combination of rows with the coefficients c, as a vector of the degree of c
+abbrev pub combined_rows : Ring → List Vector → Vector → Vector
+combined_rows ring rows c = record { degree = c.degree; terms = row_combination ring rows c.terms }
+
+-- c M
 abbrev pub combined : Matrix → Vector → Vector
-combined m c = record { degree = c.degree; terms = row_combination m.ring m.rows c.terms }
+combined m c = combined_rows m.ring m.rows c
+
+-- v is a combination of these rows with homogeneous coefficients
+pub record IsSpannedBy (ring : Ring) (rows : List Vector) (v : Vector) : Type 0 where
+  pub coefficients : Vector
+  pub homogeneous : IsVector ring (degrees_of rows) coefficients
+  pub value : combined_rows ring rows coefficients ≡ v
 
 -- v is c M for some coefficients c
-pub record InSpan (m : Matrix) (v : Vector) : Type 0 where
-  pub coefficients : Vector
-  pub homogeneous : IsCoefficients m coefficients
-  pub value : combined m coefficients ≡ v
+abbrev pub InSpan : Matrix → Vector → Type 0
+InSpan m v = IsSpannedBy m.ring m.rows v
 
 -- coefficients c with c M = 0
 pub record IsSyzygy (m : Matrix) (c : Vector) : Type 0 where

@@ -1,5 +1,6 @@
 ghost use Rattle.std.specs.Prelude.{◌≡◌, [], ◌∷◌, IfOk, pos};
 ghost use Rattle.sf_algebra.specs.Monomials.{variable};
+ghost use Rattle.sf_algebra.specs.Rings.{plain};
 ghost use Rattle.sf_matrix.specs.Places.{term_of};
 
 use crate::free::Free;
@@ -14,7 +15,7 @@ use std::test::Fail;
 /// The matrix with the rows x and y modulo 7, over a generator of degree 0.
 fn variables(alloc: Global) -> Result<Matrix, Fail>
     ensures { IfOk result (λ m. m ≡ record {
-      modulus = 7;
+      ring = plain 7;
       target = pos 0 ∷ [];
       rows = record { degree = pos 1; terms = term_of 0 (variable 0) 1 ∷ [] }
           ∷ record { degree = pos 1; terms = term_of 0 (variable 1) 1 ∷ [] }
