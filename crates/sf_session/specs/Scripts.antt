@@ -1,5 +1,5 @@
 -- The output of a script, and what a run of the program leaves.
-use Rattle.std.specs.Prelude.{◌≡◌, ℕ, ◌<◌, List, [], ◌∷◌, ◌++◌, length}
+use Rattle.std.specs.Prelude.{◌≡◌, ℕ, ◌+◌, ◌<◌, ◌≤◌, List, [], ◌∷◌, ◌++◌, length}
 use Rattle.sf_session.specs.Words.{script_lines}
 use Rattle.sf_session.specs.State.{State, start}
 use Rattle.sf_session.specs.Replies.{Step}
@@ -43,6 +43,16 @@ Outcome WriteFault script out = IsFront script out
 Outcome Memory script out = IsWholeFront script out
 Outcome TooLong script out = (out ≡ []) × (LONGEST < length script)
 Outcome Refused script out = ⊥
+
+-- how many bytes a run had read when it ended so
+abbrev pub IsReadLength : Status → ℕ → Type 0
+IsReadLength Done n = n ≤ LONGEST
+IsReadLength Usage n = n ≡ 0
+IsReadLength ReadFault n = n ≤ LONGEST
+IsReadLength WriteFault n = n ≤ LONGEST
+IsReadLength Memory n = n ≤ LONGEST
+IsReadLength TooLong n = n ≡ LONGEST + 1
+IsReadLength Refused n = ⊥
 
 -- the program's exit status
 abbrev pub status_number : Status → ℕ

@@ -3,7 +3,7 @@ ghost use Rattle.std.specs.Io.KnownBytes.{Appends, IsAtEnd};
 ghost use Rattle.sf_io.specs.Count.{Rose, RoseMore};
 ghost use Rattle.sf_io.specs.Pull.{Gives};
 ghost use Rattle.sf_session.specs.State.{start};
-ghost use Rattle.sf_session.specs.Scripts.{LONGEST, IsOutput, IsFront, IsWholeFront, Outcome};
+ghost use Rattle.sf_session.specs.Scripts.{LONGEST, IsOutput, IsFront, IsWholeFront, Outcome, IsReadLength};
 
 use crate::session::Session;
 use crate::words::next_line;
@@ -77,10 +77,15 @@ pub fn run<S: Source, K: Sink>(
     ensures accepted { map string_bytes words.now ≢ codes "run" ∷ [] → result ≡ Status.Usage }
     ensures untouched { result ≡ Status.Usage → (source.new ≡ source.old) × (sink.new ≡ sink.old) }
 
+    // What was read, and what was written of it, whether or not the ends tell their bytes.
+    ensures whole { (read : List ℕ) × (out : List ℕ) × Gives S.left S.given source.old source.new read
+        × Appends (K.written sink.old) (K.written sink.new) out
+        × Outcome result read out × IsReadLength result (length read) }
+
     // What was written, where the source tells its bytes.
     ensures output { IfSome (S.left source.old) (λ script. (out : List ℕ)
         × Appends (K.written sink.old) (K.written sink.new) out × Outcome result script out) }
-    ensures end { result ≡ Status.Done → IsAtEnd (S.left source.new) }
+    ensures end { (result ≡ Status.Done) ⊎ (result ≡ Status.WriteFault) → IsAtEnd (S.left source.new) }
     ensures done_short { result ≡ Status.Done → IfSome (S.left source.old) (λ script. length script ≤ LONGEST) }
     ensures cut_short { result ≡ Status.WriteFault → IfSome (S.left source.old) (λ script. length script ≤ LONGEST) }
     ensures unwritten { (result ≡ Status.ReadFault) ⊎ (result ≡ Status.TooLong) → sink.new ≡ sink.old }
@@ -88,8 +93,6 @@ pub fn run<S: Source, K: Sink>(
     // The causes of the other ends.
     ensures read_fault { result ≡ Status.ReadFault → Rose (S.faults source.old) (S.faults source.new) }
     ensures write_fault { result ≡ Status.WriteFault → Rose (K.faults sink.old) (K.faults sink.new) }
-    ensures fault_short { result ≡ Status.ReadFault → ((read : List ℕ)
-        × Gives S.left S.given source.old source.new read × (length read ≤ LONGEST)) }
     ensures too_long { result ≡ Status.TooLong → RoseMore LONGEST (S.given source.old) (S.given source.new) }
     ensures not_refused { result ≢ Status.Refused }
 {
