@@ -1,14 +1,15 @@
 -- A line has exactly one reply, case by case.
-use Rattle.std.proofs.Common.{◌≡◌, ℕ, List, [], Bool, true, false, Option, Some, None, refl}
-use Rattle.std.specs.Prelude.{MatchOption}
+use Rattle.std.proofs.Common.{◌≡◌, ℕ, List, [], Bool, true, false, Option, Some, None, Result, Ok, Err, refl}
+use Rattle.std.specs.Prelude.{MatchOption, MatchResult}
 use Rattle.std.specs.Bool.{MatchBool}
-use Rattle.sf_session.specs.State.{State, ring_of, opens, enters, module_named, is_degree}
-use Rattle.sf_session.specs.Placed.{relations_of, first_fault}
-use Rattle.std.specs.List.{list_all}
+use Rattle.sf_session.specs.State.{State, ring_of, opens, enters, module_named}
+use Rattle.sf_session.specs.Refusals.{refusal_text, definition}
 use Rattle.sf_session.specs.Grammar.{line_of}
-use Rattle.sf_session.specs.Replies.{Gives, Carried, Answered, Step, syntax_text, later_text, can_define}
+use Rattle.sf_session.specs.Replies.{Gives, Refused, Carried, Answered, Step, syntax_text}
 use Rattle.sf_session.specs.declared.command.Command.{Command}
 use Rattle.sf_session.specs.declared.command.Command.TheVariants.{Spectral, Ring, Module, Show, Later}
+use Rattle.sf_session.specs.declared.refusal.Refusal.{Refusal}
+use Rattle.sf_session.specs.declared.refusal.Refusal.TheVariants.{Unbuilt, Heading, Unknown}
 use Rattle.sf_session.specs.declared.command.Line.{Line}
 use Rattle.sf_session.specs.declared.command.Line.TheVariants.{Silent, Malformed, Read}
 
@@ -31,22 +32,22 @@ pub IsOne-MatchOption : {X : Type 0} (o : Option X) {P : List ℕ → State → 
 IsOne-MatchOption None p q = p
 IsOne-MatchOption (Some x) p q = q x
 
-refused : (old : State) → IsOne (Gives later_text old)
-refused old = IsOne-Gives later_text old
+pub IsOne-MatchResult : {X E : Type 0} (r : Result X E) {P : X → List ℕ → State → Type 0} {Q : E → List ℕ → State → Type 0} → ((x : X) → IsOne (P x)) → ((e : E) → IsOne (Q e))
+    → IsOne (λ reply new. MatchResult r (λ x. P x reply new) (λ e. Q e reply new))
+IsOne-MatchResult (Ok x) p q = p x
+IsOne-MatchResult (Err e) p q = q e
+
+refused : (refusal : Refusal) (old : State) → IsOne (Refused refusal old)
+refused refusal old = IsOne-Gives (refusal_text refusal) old
 
 pub IsOne-Carried : (command : Command) (old : State) → IsOne (Carried command old)
-IsOne-Carried (Spectral version) old = IsOne-MatchBool (opens old.heads version) (IsOne-Gives _ _) (refused old)
-IsOne-Carried (Ring modulus names) old = IsOne-MatchBool (enters old.heads modulus names) (IsOne-Gives _ _) (refused old)
+IsOne-Carried (Spectral version) old = IsOne-MatchBool (opens old.heads version) (IsOne-Gives _ _) (refused Heading old)
+IsOne-Carried (Ring modulus names) old = IsOne-MatchBool (enters old.heads modulus names) (IsOne-Gives _ _) (refused Heading old)
 IsOne-Carried (Module name degrees relations) old =
-    IsOne-MatchOption (ring_of old.heads) (refused old) (λ r.
-    IsOne-MatchBool (can_define r old.modules name degrees relations.rows)
-    (IsOne-MatchOption (first_fault 1 degrees (relations_of r degrees relations.rows).rows)
-    (IsOne-MatchBool (list_all is_degree degrees) (IsOne-Gives _ _) (refused old))
-    (λ row. IsOne-Gives _ _))
-    (refused old))
+    IsOne-MatchResult (definition (ring_of old.heads) old.modules name degrees relations.rows) (λ placed. IsOne-Gives _ _) (λ refusal. refused refusal old)
 IsOne-Carried (Show name) old =
-    IsOne-MatchOption (ring_of old.heads) (refused old) (λ r. IsOne-MatchOption (module_named name old.modules) (refused old) (λ relations. IsOne-Gives _ _))
-IsOne-Carried Later old = refused old
+    IsOne-MatchOption (ring_of old.heads) (refused Heading old) (λ r. IsOne-MatchOption (module_named name old.modules) (refused (Unknown name) old) (λ relations. IsOne-Gives _ _))
+IsOne-Carried Later old = refused Unbuilt old
 
 pub IsOne-Answered : (line : Line) (old : State) → IsOne (Answered line old)
 IsOne-Answered Silent old = IsOne-Gives [] old

@@ -1,6 +1,7 @@
 pub mod Words
 pub mod Grammar
 pub mod State
+pub mod Refusals
 pub mod Replies
 pub mod Scripts
 pub mod Laws

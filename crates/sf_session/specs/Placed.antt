@@ -10,7 +10,6 @@ use Rattle.sf_algebra.specs.Terms.{Term}
 use Rattle.sf_algebra.specs.Vectors.{Place, Vector, place_cmp, place_degree, row_degree}
 use Rattle.sf_algebra.specs.Matrices.{Matrix}
 use Rattle.sf_algebra.specs.Sums.{normal}
-use Rattle.sf_session.specs.State.{is_among}
 use Rattle.sf_session.specs.declared.heads.Ring.{Ring}
 use Rattle.sf_session.specs.Raw.{RawTerm}
 
@@ -44,13 +43,6 @@ row_vector ring degrees entries =
 -- the matrix with these rows over the free module with these degrees
 abbrev pub relations_of : Ring → List ℤ → List (List (List RawTerm)) → Matrix
 relations_of ring degrees rows = record { ring = plain ring.modulus; target = degrees; rows = map (row_vector ring degrees) rows }
-
--- all variables of a term, of an entry, of a row are the ring's
-abbrev pub knows_term : List (List ℕ) → RawTerm → Bool
-knows_term names t = list_all (λ (f : List ℕ × ℕ). is_among names f.0) t.factors
-
-abbrev pub knows_row : List (List ℕ) → List (List RawTerm) → Bool
-knows_row names = list_all (list_all (knows_term names))
 
 -- each row has an entry for each generator
 abbrev pub has_shape : ℕ → List (List (List RawTerm)) → Bool

@@ -11,6 +11,7 @@ mod placing;
 mod printing;
 mod raw;
 mod reading;
+mod refusal;
 mod session;
 #[cfg(test)]
 mod tests;
@@ -21,4 +22,5 @@ pub use command::{Command, Line};
 pub use execution::{Status, run};
 pub use heads::{Heads, Ring};
 pub use laws::{front_of_output, one_output, one_reply};
+pub use refusal::Refusal;
 pub use session::Session;

@@ -6,4 +6,4 @@ mod shape;
 mod term;
 
 pub use rows::place_rows;
-pub use shape::{has_shape, knows_rows};
+pub use shape::{first_unknown, has_shape};

@@ -1,21 +1,23 @@
 ghost use Rattle.std.specs.Prelude.{◌≡◌, [], ◌∷◌, ◌++◌, IsTrue, IfOk, OnOk, OnErr, is_none};
 ghost use Rattle.std.specs.List.{list_all};
-ghost use Rattle.sf_session.specs.State.{start, module_named, is_degree};
-ghost use Rattle.sf_session.specs.Replies.{Step, Carried, ok_text, later_text, syntax_text, module_text, degree_text, can_define};
+ghost use Rattle.sf_session.specs.State.{start, module_named, is_degree, ring_of, HasFewVariables};
+ghost use Rattle.sf_session.specs.Refusals.{refusal_text, degree_text, definition};
+ghost use Rattle.sf_session.specs.Replies.{Step, Carried, ok_text, syntax_text, module_text};
 ghost use Rattle.sf_session.specs.Grammar.{IsWritten};
 ghost use Rattle.sf_session.specs.Placed.{is_written_degree};
 
 use crate::command::{Command, Line};
 use crate::headings::{can_open, entered_modulus, ring_of};
 use crate::heads::{Heads, Ring};
-use crate::placing::{has_shape, knows_rows, place_rows};
+use crate::placing::{first_unknown, has_shape, place_rows};
 use crate::printing::{print_degrees, print_matrix};
 use crate::raw::RawMatrix;
 use crate::reading::read_line;
+use crate::refusal::Refusal;
 use indexmap::IndexMap;
 use itoa::Buffer;
 use sf_field::OutOfMemory;
-use sf_matrix::{List, Matrix, Name};
+use sf_matrix::{Copied, List, Matrix, Name};
 use sf_pairs::Strategy;
 use std::alloc::Global;
 use std::marker::Model;
@@ -78,7 +80,7 @@ impl Session {
                 relations,
             } => self.define(name, degrees, relations),
             Command::Show { name } => self.show(name),
-            Command::Later => refused(self.alloc),
+            Command::Later => refused(self.alloc, Refusal::Unbuilt),
         }
     }
 
@@ -87,7 +89,7 @@ impl Session {
         ensures kept { OnErr result (self.new ≡ self.old) }
     {
         if !can_open(&self.heads, version) {
-            return refused(self.alloc);
+            return refused(self.alloc, Refusal::Heading);
         }
         let reply = accepted(self.alloc)?;
         self.heads = Heads::Opened;
@@ -99,7 +101,7 @@ impl Session {
         ensures kept { OnErr result (self.new ≡ self.old) }
     {
         let Some(modulus) = entered_modulus(&self.heads, modulus, names.as_slice()) else {
-            return refused(self.alloc);
+            return refused(self.alloc, Refusal::Heading);
         };
         let reply = accepted(self.alloc)?;
         self.heads = Heads::Within(Ring { modulus, names });
@@ -116,16 +118,15 @@ impl Session {
         ensures reply { IfOk result (λ reply. Carried (Command.Module name degrees relations) self.old reply.items self.new) }
         ensures kept { OnErr result (self.new ≡ self.old) }
     {
-        let Some(ring) = ring_of(&self.heads) else {
-            return refused(self.alloc);
-        };
-        if !can_define(ring, &self.modules, &name, &degrees, &relations) {
-            return refused(self.alloc);
-        }
-        let in_range = are_degrees(degrees.as_slice());
-        match place_rows(self.alloc, ring, degrees, relations.rows.as_slice())? {
-            Err(row) => misgraded(self.alloc, row),
-            Ok(_) if !in_range => refused(self.alloc),
+        match relations_of(
+            self.alloc,
+            &self.heads,
+            &self.modules,
+            &name,
+            degrees,
+            &relations,
+        )? {
+            Err(refusal) => refused(self.alloc, refusal),
             Ok(relations) => {
                 let reply = accepted(self.alloc)?;
                 add_module(&mut self.modules, name, relations)?;
@@ -143,24 +144,44 @@ impl Session {
                 ring.names.as_slice(),
                 relations,
             ),
-            _ => refused(self.alloc),
+            (None, _) => refused(self.alloc, Refusal::Heading),
+            (Some(_), None) => refused(self.alloc, Refusal::Unknown(name)),
         }
     }
 }
 
-fn can_define(
-    ring: &Ring,
+/// The relations of a module that is defined, or the first reason to refuse it.
+fn relations_of(
+    alloc: Global,
+    heads: &Heads,
     modules: &IndexMap<Name, Matrix>,
     name: &Name,
-    degrees: &List<i32>,
+    degrees: List<i32>,
     relations: &RawMatrix,
-) -> bool
-    ensures { result ≡ can_define ring.now modules.now.entries name.now degrees.now relations.now.rows }
+) -> Result<Result<Matrix, Refusal>, OutOfMemory>
+    requires few { HasFewVariables heads.now }
+    requires written { IsTrue (list_all is_written_degree degrees) }
+    ensures { IfOk result (λ r. r ≡ definition (ring_of heads.now) modules.now.entries name.now degrees relations.now.rows) }
 {
+    let Some(ring) = ring_of(heads) else {
+        return Ok(Err(Refusal::Heading));
+    };
     let rows = relations.rows.as_slice();
-    knows_rows(ring.names.as_slice(), rows)
-        && !modules.contains_key(name)
-        && has_shape(degrees.len(), rows)
+    if let Some(unknown) = first_unknown(ring.names.as_slice(), rows) {
+        return Ok(Err(Refusal::Unknown(unknown.copy(alloc)?)));
+    }
+    if modules.contains_key(name) {
+        return Ok(Err(Refusal::Taken(name.copy(alloc)?)));
+    }
+    if !has_shape(degrees.len(), rows) {
+        return Ok(Err(Refusal::Shape));
+    }
+    let in_range = are_degrees(degrees.as_slice());
+    match place_rows(alloc, ring, degrees, rows)? {
+        Err(row) => Ok(Err(Refusal::Degree(row))),
+        Ok(_) if !in_range => Ok(Err(Refusal::Range)),
+        Ok(relations) => Ok(Ok(relations)),
+    }
 }
 
 /// Whether each is a degree that a generator may be given.
@@ -213,10 +234,14 @@ fn accepted(alloc: Global) -> Result<Vec<u8>, OutOfMemory>
     Ok(Vec::from_slice(alloc, b"ok\n")?)
 }
 
-fn refused(alloc: Global) -> Result<Vec<u8>, OutOfMemory>
-    ensures { IfOk result (λ reply. reply.items ≡ later_text) }
+/// The reply to a line that is refused.
+fn refused(alloc: Global, refusal: Refusal) -> Result<Vec<u8>, OutOfMemory>
+    ensures { IfOk result (λ reply. reply.items ≡ refusal_text refusal) }
 {
-    Ok(Vec::from_slice(alloc, b"error later\n")?)
+    match refusal {
+        Refusal::Degree(row) => misgraded(alloc, row),
+        _ => Ok(Vec::from_slice(alloc, b"error later\n")?),
+    }
 }
 
 fn malformed(alloc: Global) -> Result<Vec<u8>, OutOfMemory>

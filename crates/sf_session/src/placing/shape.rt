@@ -1,16 +1,48 @@
-ghost use Rattle.std.specs.Prelude.{◌≡◌};
+ghost use Rattle.std.specs.Prelude.{◌≡◌, option_copied};
 ghost use Rattle.std.specs.List.{list_all};
-ghost use Rattle.sf_session.specs.State.{is_among};
-ghost use Rattle.sf_session.specs.Placed.{knows_term, knows_row, has_shape};
+ghost use Rattle.sf_session.specs.Placed.{has_shape};
+ghost use Rattle.sf_session.specs.Refusals.{knows_factor, knows_term, knows_entry, knows_row, first_failing, first_unknown};
 
 use crate::raw::RawTerm;
 use sf_matrix::{List, Name};
 
-/// Whether all variables of the rows are the ring's.
-pub fn knows_rows(names: &[Name], rows: &[List<List<RawTerm>>]) -> bool
-    ensures { result ≡ list_all (knows_row names.now) rows.now }
+/// The leftmost variable of the rows that isn't one of the ring's.
+pub fn first_unknown<'a>(names: &[Name], rows: &'a [List<List<RawTerm>>]) -> Option<&'a Name>
+    ensures { option_copied result ≡ first_unknown names.now rows.now }
 {
-    rows.iter().all(|row| knows_row(names, row.as_slice()))
+    let row = row_with_unknown(names, rows)?;
+    let entry = entry_with_unknown(names, row.as_slice())?;
+    let term = term_with_unknown(names, entry.as_slice())?;
+    let (name, _) = unknown_factor(names, term.factors.as_slice())?;
+    Some(name)
+}
+
+fn row_with_unknown<'a>(
+    names: &[Name],
+    rows: &'a [List<List<RawTerm>>],
+) -> Option<&'a List<List<RawTerm>>>
+    ensures { option_copied result ≡ first_failing (knows_row names.now) rows.now }
+{
+    rows.iter().find(|row| !knows_row(names, row.as_slice()))
+}
+
+fn entry_with_unknown<'a>(names: &[Name], row: &'a [List<RawTerm>]) -> Option<&'a List<RawTerm>>
+    ensures { option_copied result ≡ first_failing (knows_entry names.now) row.now }
+{
+    row.iter()
+        .find(|entry| !knows_entry(names, entry.as_slice()))
+}
+
+fn term_with_unknown<'a>(names: &[Name], entry: &'a [RawTerm]) -> Option<&'a RawTerm>
+    ensures { option_copied result ≡ first_failing (knows_term names.now) entry.now }
+{
+    entry.iter().find(|term| !knows_term(names, term))
+}
+
+fn unknown_factor<'a>(names: &[Name], factors: &'a [(Name, u16)]) -> Option<&'a (Name, u16)>
+    ensures { option_copied result ≡ first_failing (knows_factor names.now) factors.now }
+{
+    factors.iter().find(|(name, _)| !names.contains(name))
 }
 
 fn knows_row(names: &[Name], row: &[List<RawTerm>]) -> bool
@@ -20,7 +52,7 @@ fn knows_row(names: &[Name], row: &[List<RawTerm>]) -> bool
 }
 
 fn knows_entry(names: &[Name], entry: &[RawTerm]) -> bool
-    ensures { result ≡ list_all (knows_term names.now) entry.now }
+    ensures { result ≡ knows_entry names.now entry.now }
 {
     entry.iter().all(|term| knows_term(names, term))
 }
@@ -32,7 +64,7 @@ fn knows_term(names: &[Name], term: &RawTerm) -> bool
 }
 
 fn knows_factors(names: &[Name], factors: &[(Name, u16)]) -> bool
-    ensures { result ≡ list_all (λ f. is_among names.now f.0) factors.now }
+    ensures { result ≡ list_all (knows_factor names.now) factors.now }
 {
     factors.iter().all(|(name, _)| names.contains(name))
 }
