@@ -12,8 +12,8 @@ use Rattle.sf_session.specs.declared.heads.Ring.{Ring}
 use Rattle.sf_session.specs.declared.refusal.Refusal.{Refusal}
 use Rattle.sf_session.specs.declared.refusal.Refusal.TheVariants.{Unknown, Taken, Shape, Degree, Range}
 
-refused_first : {X : Type 0} (x : X) (reason : Option Refusal) (others : List (Option Refusal)) (refusal : Refusal) → reason ≡ Some refusal
-    → unless_refused x (reason ∷ others) ≡ Err refusal
+refused_first : {X : Type 0} (x : X) (reason : Option Refusal) (others : List (Option Refusal)) (refusal : Refusal)
+    → reason ≡ Some refusal → unless_refused x (reason ∷ others) ≡ Err refusal
 refused_first x None others refusal e = cc
 refused_first x (Some other) others refusal e = let same : other ≡ refusal = cc in ap Err same
 
@@ -22,7 +22,8 @@ passed_first : {X : Type 0} (x : X) (reason : Option Refusal) (others : List (Op
 passed_first x None others e = refl
 passed_first x (Some other) others e = cc
 
-module _ (found : Option Ring) (ring : Ring) (modules : List (List ℕ × Matrix)) (name : List ℕ) (degrees : List ℤ) (rows : List (List (List RawTerm))) (given : found ≡ Some ring) where
+module _ (found : Option Ring) (ring : Ring) (modules : List (List ℕ × Matrix)) (name : List ℕ) (degrees : List ℤ)
+    (rows : List (List (List RawTerm))) (given : found ≡ Some ring) where
   abbrev placed : Matrix
   placed = relations_of ring degrees rows
 

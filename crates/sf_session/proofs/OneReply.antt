@@ -32,7 +32,8 @@ pub IsOne-MatchOption : {X : Type 0} (o : Option X) {P : List ℕ → State → 
 IsOne-MatchOption None p q = p
 IsOne-MatchOption (Some x) p q = q x
 
-pub IsOne-MatchResult : {X E : Type 0} (r : Result X E) {P : X → List ℕ → State → Type 0} {Q : E → List ℕ → State → Type 0} → ((x : X) → IsOne (P x)) → ((e : E) → IsOne (Q e))
+pub IsOne-MatchResult : {X E : Type 0} (r : Result X E) {P : X → List ℕ → State → Type 0} {Q : E → List ℕ → State → Type 0}
+    → ((x : X) → IsOne (P x)) → ((e : E) → IsOne (Q e))
     → IsOne (λ reply new. MatchResult r (λ x. P x reply new) (λ e. Q e reply new))
 IsOne-MatchResult (Ok x) p q = p x
 IsOne-MatchResult (Err e) p q = q e
@@ -44,9 +45,12 @@ pub IsOne-Carried : (command : Command) (old : State) → IsOne (Carried command
 IsOne-Carried (Spectral version) old = IsOne-MatchBool (opens old.heads version) (IsOne-Gives _ _) (refused Heading old)
 IsOne-Carried (Ring modulus names) old = IsOne-MatchBool (enters old.heads modulus names) (IsOne-Gives _ _) (refused Heading old)
 IsOne-Carried (Module name degrees relations) old =
-    IsOne-MatchResult (definition (ring_of old.heads) old.modules name degrees relations.rows) (λ placed. IsOne-Gives _ _) (λ refusal. refused refusal old)
+    IsOne-MatchResult (definition (ring_of old.heads) old.modules name degrees relations.rows)
+    (λ placed. IsOne-Gives _ _)
+    (λ refusal. refused refusal old)
 IsOne-Carried (Show name) old =
-    IsOne-MatchOption (ring_of old.heads) (refused Heading old) (λ r. IsOne-MatchOption (module_named name old.modules) (refused (Unknown name) old) (λ relations. IsOne-Gives _ _))
+    IsOne-MatchOption (ring_of old.heads) (refused Heading old) (λ r.
+    IsOne-MatchOption (module_named name old.modules) (refused (Unknown name) old) (λ relations. IsOne-Gives _ _))
 IsOne-Carried Later old = refused Unbuilt old
 
 pub IsOne-Answered : (line : Line) (old : State) → IsOne (Answered line old)

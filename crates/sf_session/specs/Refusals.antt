@@ -55,8 +55,8 @@ knows_row names = list_all (knows_entry names)
 abbrev pub first_failing : {X : Type 0} → (X → Bool) → List X → Option X
 first_failing test = find (λ x. not (test x))
 
--- the leftmost variable of a matrix that isn't one of the ring's: in the first row that has one, its first entry that does, and
--- the first term of that
+-- the leftmost variable of a matrix that isn't one of the ring's: it stands in the first row that has one, in the first such
+-- entry of this row, and in the first such term of this entry
 abbrev pub first_unknown : List (List ℕ) → List (List (List RawTerm)) → Option (List ℕ)
 first_unknown names rows = do
   row ← first_failing (knows_row names) rows
@@ -66,7 +66,8 @@ first_unknown names rows = do
   Some factor.0
 
 -- the relations of a module that is defined in this ring, or why it isn't: the first of these reasons that holds
-abbrev pub definition : Option Ring → List (List ℕ × Matrix) → List ℕ → List ℤ → List (List (List RawTerm)) → Result Matrix Refusal
+abbrev pub definition : Option Ring → List (List ℕ × Matrix) → List ℕ → List ℤ → List (List (List RawTerm))
+    → Result Matrix Refusal
 definition None modules name degrees rows = Err Heading
 definition (Some ring) modules name degrees rows =
     let placed = relations_of ring degrees rows in

@@ -39,7 +39,9 @@ Refused refusal old reply new = Gives (refusal_text refusal) old reply new
 -- what a command of the grammar gives
 abbrev pub Carried : Command → State → List ℕ → State → Type 0
 Carried (Spectral version) old reply new =
-    MatchBool (opens old.heads version) (Accepted (record old { heads = Opened }) reply new) (Refused Heading old reply new)
+    MatchBool (opens old.heads version)
+    (Accepted (record old { heads = Opened }) reply new)
+    (Refused Heading old reply new)
 Carried (Ring modulus names) old reply new =
     MatchBool (enters old.heads modulus names)
     (Accepted (record old { heads = Within (record { modulus = modulus; names = names }) }) reply new)

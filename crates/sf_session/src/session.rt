@@ -161,7 +161,8 @@ fn relations_of(
 ) -> Result<Result<Matrix, Refusal>, OutOfMemory>
     requires few { HasFewVariables heads.now }
     requires written { IsTrue (list_all is_written_degree degrees) }
-    ensures { IfOk result (λ r. r ≡ definition (ring_of heads.now) modules.now.entries name.now degrees relations.now.rows) }
+    ensures { IfOk result (λ r.
+        r ≡ definition (ring_of heads.now) modules.now.entries name.now degrees relations.now.rows) }
 {
     let Some(ring) = ring_of(heads) else {
         return Ok(Err(Refusal::Heading));

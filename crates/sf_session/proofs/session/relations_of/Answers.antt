@@ -16,7 +16,8 @@ returns-in-Some-first_unknown c =
     let unknown : first_unknown ring.names rows ≡ Some c.in-Some-first_unknown.unknown.now =
     sym (rw (c.as_slice.ensures.items, c.as_slice-rows.ensures.items) at c.in-Some-first_unknown.ensures) in
     let copied : c.in_ok-copy.field-0 ≡ c.in-Some-first_unknown.unknown.now = search rules in
-    ap (λ x. Err (Unknown x)) copied ∙ sym (definition-unknown _ ring c.args.modules.now.entries c.args.name.now c.args.degrees rows given _ unknown)
+    ap (λ x. Err (Unknown x)) copied
+    ∙ sym (definition-unknown _ ring c.args.modules.now.entries c.args.name.now c.args.degrees rows given _ unknown)
 
 pub returns-then-contains_key : goal.returns-then-contains_key
 returns-then-contains_key c =
@@ -26,7 +27,8 @@ returns-then-contains_key c =
     let known : first_unknown ring.names rows ≡ None = search rules in
     let taken : is_some (module_named c.args.name.now c.args.modules.now.entries) ≡ true = search rules in
     let copied : c.in_ok-copy-2.field-0 ≡ c.args.name.now = search rules in
-    ap (λ x. Err (Taken x)) copied ∙ sym (definition-taken _ ring c.args.modules.now.entries c.args.name.now c.args.degrees rows given known taken)
+    ap (λ x. Err (Taken x)) copied
+    ∙ sym (definition-taken _ ring c.args.modules.now.entries c.args.name.now c.args.degrees rows given known taken)
 
 pub returns-then-not-has_shape : goal.returns-then-not-has_shape
 returns-then-not-has_shape c =
@@ -63,7 +65,8 @@ returns-in-Ok c =
     let shaped : has_shape (length degrees) rows ≡ true = search rules in
     let homogeneous : first_fault 1 degrees (relations_of ring degrees rows).rows ≡ None = search rules in
     let range : list_all is_degree degrees ≡ false = search rules in
-    sym (definition-range _ ring c.args.modules.now.entries c.args.name.now degrees rows given known new shaped homogeneous range)
+    sym (definition-range _ ring c.args.modules.now.entries c.args.name.now degrees rows given known new shaped
+    homogeneous range)
 
 pub returns-in-Ok-2 : goal.returns-in-Ok-2
 returns-in-Ok-2 c =
@@ -78,4 +81,6 @@ returns-in-Ok-2 c =
     let homogeneous : first_fault 1 degrees (relations_of ring degrees rows).rows ≡ None = search rules in
     let range : list_all is_degree degrees ≡ true = search rules in
     let same : c.in-Ok.field-0 ≡ relations_of ring degrees rows = search rules in
-    ap Ok same ∙ sym (definition-ok _ ring c.args.modules.now.entries c.args.name.now degrees rows given known new shaped homogeneous range)
+    ap Ok same
+    ∙ sym (definition-ok _ ring c.args.modules.now.entries c.args.name.now degrees rows given known new shaped
+    homogeneous range)
