@@ -78,9 +78,13 @@ pub fn run<S: Source, K: Sink>(
     ensures untouched { result ≡ Status.Usage → (source.new ≡ source.old) × (sink.new ≡ sink.old) }
 
     // What was read, and what was written of it, whether or not the ends tell their bytes.
-    ensures whole { (read : List ℕ) × (out : List ℕ) × Gives S.left S.given source.old source.new read
+    ensures read_and_written { (read : List ℕ) × (out : List ℕ) × Gives S.left S.given source.old source.new read
         × Appends (K.written sink.old) (K.written sink.new) out
         × Outcome result read out × IsReadLength result (length read) }
+
+    // Memory was wanting before the script was read, or behind its end.
+    ensures memory { result ≡ Status.Memory
+        → ((source.new ≡ source.old) × (sink.new ≡ sink.old)) ⊎ IsAtEnd (S.left source.new) }
 
     // What was written, where the source tells its bytes.
     ensures output { IfSome (S.left source.old) (λ script. (out : List ℕ)
