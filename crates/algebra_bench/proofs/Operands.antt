@@ -2,9 +2,10 @@
 use Rattle.std.proofs.Common.{◌≡◌, ℕ, zero, suc, ◌+◌, ◌<◌, ◌≤◌, List, [], ◌∷◌, length, map, ℤ, pos, ◌+ℤ◌, arith, sym, subst}
 use Rattle.std.proofs.lemmas.Int.{ints}
 use Rattle.std.specs.List.{AllByRecursion}
+use Rattle.sf_algebra.specs.Bounds.{GREATEST_SUM}
 use Rattle.sf_algebra.specs.Matrices.{Matrix, row_degrees}
 use Rattle.sf_algebra.specs.MatrixOperations.{identity}
-use Rattle.sf_algebra.specs.Monomials.{GREATEST_SUM, exponent_sum}
+use Rattle.sf_algebra.specs.Monomials.{exponent_sum}
 use Rattle.sf_algebra.specs.Rings.{Ring, Weights, IsPositive, plain, ones}
 use Rattle.sf_algebra.specs.Sums.{normal}
 use Rattle.sf_algebra.specs.Terms.{Term, IsCanonical}

@@ -3,8 +3,7 @@ use Rattle.std.proofs.Common.{◌≡◌, ◌≢◌, ℕ, zero, suc, ◌+◌, ◌
 use Rattle.std.proofs.Math.Nat.{zero-mod}
 use Rattle.std.proofs.lemmas.Bool.{cases_eq}
 use Rattle.std.proofs.lemmas.Bool.Decides.{nat_tests}
-use Rattle.sf_algebra.specs.CombinationLaws.{entry_products}
-use Rattle.sf_algebra.specs.MatrixOperations.{row_at, row_combination}
+use Rattle.sf_algebra.specs.MatrixOperations.{row_at, row_combination, entry_products}
 use Rattle.sf_algebra.specs.Monomials.{Monomial, product, monomial_cmp}
 use Rattle.sf_algebra.specs.Multiples.{term_product}
 use Rattle.sf_algebra.specs.Polynomials.{polynomial_product}

@@ -10,7 +10,7 @@ use Rattle.sf_algebra.specs.Rings.{Ring}
 use Rattle.sf_algebra.specs.Sums.{add}
 use Rattle.sf_algebra.specs.Terms.{Term}
 use Rattle.sf_algebra.specs.VectorOperations.{row_sum, row_multiple}
-use Rattle.sf_algebra.specs.Vectors.{Place, Vector, place_cmp, generator_degree, IsHomogeneous, IsVector}
+use Rattle.sf_algebra.specs.Vectors.{Place, Vector, place_cmp, generator_degree, IsHomogeneous, IsVector, IsCanonicalRow}
 use Rattle.sf_algebra.proofs.Degrees.{HasHomogeneousRows, IsHomogeneous-add, IsHomogeneous-multiple, IsHomogeneous-negative, IsHomogeneous-row_combination}
 use Rattle.sf_algebra.proofs.DegreeParts.{IsHomogeneous-degree_part, row_combination-degree_part}
 use Rattle.sf_algebra.proofs.Filters.{IsCanonical-filter}
@@ -52,8 +52,8 @@ module _ (ring : Ring) (degrees : List ℤ) where
     homogeneous = ((within, omega (arith, ints)), tt);
   }
 
-  pub IsVector-degree_part : (d : ℤ) (v : Vector) → IsVector ring degrees v → IsVector ring degrees (record { degree = d; terms = degree_part ring.weights degrees d v.terms })
-  IsVector-degree_part d v h = record { canonical = IsCanonical-filter _ (place_cmp ring.weights) ring.modulus v.terms h.canonical; homogeneous = IsHomogeneous-degree_part ring.weights degrees d v.terms }
+  pub IsVector-degree_part : (d : ℤ) (ts : List (Term Place)) → IsCanonicalRow ring ts → IsVector ring degrees (record { degree = d; terms = degree_part ring.weights degrees d ts })
+  IsVector-degree_part d ts h = record { canonical = IsCanonical-filter _ (place_cmp ring.weights) ring.modulus ts h; homogeneous = IsHomogeneous-degree_part ring.weights degrees d ts }
 
 -- a vector times the identity
 pub row_combination-identity : (ring : Ring) → 0 < ring.modulus → (degrees : List ℤ) (v : Vector) → IsVector ring degrees v → row_combination ring (identity ring degrees).rows v.terms ≡ v.terms

@@ -3,8 +3,7 @@ use Rattle.std.proofs.Common.{◌≡◌, refl, ℕ, ◌+◌, ◌*◌, ◌<◌, L
 use Rattle.std.specs.List.{AllByRecursion, flat_map}
 use Rattle.std.proofs.lemmas.List.{length-map, map-append}
 use Rattle.sf_algebra.specs.Matrices.{Matrix, IsMatrix}
-use Rattle.sf_algebra.specs.MatrixProductLaws.{IsComposable}
-use Rattle.sf_algebra.specs.MatrixOperations.{row_at, row_combination, matrix_product, moved, kronecker_terms, degree_sums, kronecker}
+use Rattle.sf_algebra.specs.MatrixOperations.{row_at, row_combination, matrix_product, moved, kronecker_terms, degree_sums, kronecker, IsComposable}
 use Rattle.sf_algebra.specs.Multiples.{place_product, combination}
 use Rattle.sf_algebra.specs.Rings.{Ring}
 use Rattle.sf_algebra.specs.Terms.{Term}

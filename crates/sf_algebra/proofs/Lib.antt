@@ -23,6 +23,7 @@ pub mod Factors
 pub mod Entries
 pub mod Positions
 pub mod MatrixRows
+pub mod Sizes
 pub mod Identities
 pub mod Columns
 pub mod Transposes

@@ -2,8 +2,7 @@
 use Rattle.std.proofs.Common.{◌≡◌, sym, subst}
 use Rattle.std.specs.List.{AllByRecursion}
 use Rattle.sf_algebra.specs.Matrices.{Matrix, row_degrees, IsMatrix}
-use Rattle.sf_algebra.specs.MatrixOperations.{row_combination, matrix_product}
-use Rattle.sf_algebra.specs.MatrixProductLaws.{IsComposable}
+use Rattle.sf_algebra.specs.MatrixOperations.{row_combination, matrix_product, IsComposable}
 use Rattle.sf_algebra.specs.Vectors.{Vector, IsVector}
 use Rattle.sf_algebra.proofs.HomogeneousVectors.{IsVector-row_combination}
 use Rattle.sf_algebra.proofs.Lists.{AllByRecursion-weaken}

@@ -3,8 +3,7 @@ use Rattle.std.proofs.Common.{◌≡◌, ◌≢◌, refl, ℕ, ◌+◌, ◌<◌,
 use Rattle.std.proofs.lemmas.Bool.{cases_eq, cases_lt}
 use Rattle.std.proofs.lemmas.List.{length-map}
 use Rattle.sf_algebra.specs.Matrices.{Matrix, IsMatrix}
-use Rattle.sf_algebra.specs.MatrixProductLaws.{IsComposable}
-use Rattle.sf_algebra.specs.MatrixOperations.{row_at, unit_rows, identity, matrix_product, transposed}
+use Rattle.sf_algebra.specs.MatrixOperations.{row_at, unit_rows, identity, matrix_product, transposed, IsComposable}
 use Rattle.sf_algebra.specs.Rings.{Ring}
 use Rattle.sf_algebra.specs.Vectors.{entry}
 use Rattle.sf_algebra.proofs.Entries.{entry-here, entry-elsewhere}

@@ -4,7 +4,7 @@ use Rattle.std.specs.Prelude.{◌≡◌, if◌then◌else◌, ℕ, suc, ◌<◌,
 use Rattle.std.specs.List.{AllByRecursion}
 use Rattle.std.specs.Ordering.{is_eq}
 use Rattle.sf_algebra.specs.Matrices.{Matrix, IsMatrix}
-use Rattle.sf_algebra.specs.MatrixOperations.{row_at, row_combination, unit_vector, unit_rows, matrix_product, negated, moved}
+use Rattle.sf_algebra.specs.MatrixOperations.{row_at, row_combination, unit_vector, unit_rows, matrix_product, negated, moved, entry_products}
 use Rattle.sf_algebra.specs.Monomials.{Monomial, monomial_cmp}
 use Rattle.sf_algebra.specs.Multiples.{place_product, multiple, negative}
 use Rattle.sf_algebra.specs.Polynomials.{polynomial_product}
@@ -28,11 +28,6 @@ abbrev pub SumsProductsWithRows : Type 0
 SumsProductsWithRows =
     (ring : Ring) (rows : List Vector) (c : List (Term Place)) (k : Place)
     → coefficient_at (place_cmp ring.weights) ring.modulus k (row_combination ring rows c) ≡ total ring.modulus (λ t. total ring.modulus (combination_part ring k t) (row_at rows t.at.position)) c
-
--- the sum, over rows that stand from position i on, of the products of the entries of c at their positions and their entries at j
-abbrev pub entry_products : Ring → ℕ → List (Term Place) → ℕ → List Vector → List (Term Monomial)
-entry_products ring j c i [] = []
-entry_products ring j c i (v ∷ vs) = add (monomial_cmp ring.weights) ring.modulus (polynomial_product ring (entry i c) (entry j v.terms)) (entry_products ring j c (suc i) vs)
 
 -- the entries of c M are the sums of the products of the entries of c and those of a column of M
 abbrev pub SumsProductsOfEntries : Type 0

@@ -10,7 +10,7 @@ use Rattle.sf_algebra.specs.Rings.{Ring}
 use Rattle.sf_algebra.specs.Sums.{add}
 use Rattle.sf_algebra.specs.Terms.{Term}
 use Rattle.sf_algebra.specs.VectorOperations.{row_sum, row_multiple}
-use Rattle.sf_algebra.specs.Vectors.{Place, Vector, place_cmp, IsVector}
+use Rattle.sf_algebra.specs.Vectors.{Place, Vector, place_cmp, IsVector, IsCanonicalRow}
 
 -- the sum of two vectors of one degree
 abbrev pub HasHomogeneousSums : Type 0
@@ -47,4 +47,5 @@ NeedsCoefficientsOfItsDegree =
 -- the part of a vector that has a given degree is a homogeneous vector
 abbrev pub HasHomogeneousParts : Type 0
 HasHomogeneousParts =
-    (ring : Ring) (degrees : List ℤ) (d : ℤ) (v : Vector) → IsVector ring degrees v → IsVector ring degrees (record { degree = d; terms = degree_part ring.weights degrees d v.terms })
+    (ring : Ring) (degrees : List ℤ) (d : ℤ) (ts : List (Term Place)) → IsCanonicalRow ring ts
+    → IsVector ring degrees (record { degree = d; terms = degree_part ring.weights degrees d ts })

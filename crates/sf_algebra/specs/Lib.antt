@@ -19,6 +19,8 @@ pub mod Vectors
 pub mod Numbers
 pub mod NumberLaws
 pub mod Matrices
+pub mod Bounds
+pub mod SizeLaws
 pub mod Printing
 pub mod Multiples
 pub mod VectorOperations

@@ -1,9 +1,10 @@
 -- What is made of graded matrices. A matrix acts on row vectors from the right. (Textbook; homalg's convention.)
-use Rattle.std.specs.Prelude.{ℕ, zero, suc, ◌+◌, ◌-◌, ◌*◌, nat_le, nat_lt, ◌&&◌, List, [], ◌∷◌, ◌++◌, length, map, slice_range, ℤ, ◌+ℤ◌, neg_ℤ}
+use Rattle.std.specs.Prelude.{ℕ, zero, suc, ◌+◌, ◌-◌, ◌*◌, nat_le, nat_lt, ◌&&◌, List, [], ◌∷◌, ◌++◌, length, map, slice_range, ℤ, ◌+ℤ◌, neg_ℤ, ◌≡◌, ◌<◌}
 use Rattle.std.specs.List.{filter, flat_map}
 use Rattle.sf_algebra.specs.Matrices.{Matrix, row_degrees}
 use Rattle.sf_algebra.specs.Monomials.{Monomial, one}
 use Rattle.sf_algebra.specs.Multiples.{place_product, negative, combination}
+use Rattle.sf_algebra.specs.Polynomials.{polynomial_sum, polynomial_product}
 use Rattle.sf_algebra.specs.Rings.{Ring}
 use Rattle.sf_algebra.specs.Terms.{Term}
 use Rattle.sf_algebra.specs.Vectors.{Place, Vector, place_cmp, entry}
@@ -17,6 +18,11 @@ row_at (v ∷ vs) (suc i) = row_at vs i
 -- c M: the combination of the rows of M with the coefficients c
 abbrev pub row_combination : Ring → List Vector → List (Term Place) → List (Term Place)
 row_combination ring rows c = combination (place_cmp ring.weights) place_product ring.modulus (λ k. k.monomial) (λ k. row_at rows k.position) c
+
+-- the sum, over rows that stand from position i on, of the products of the entries of c at their positions and their entries at j
+abbrev pub entry_products : Ring → ℕ → List (Term Place) → ℕ → List Vector → List (Term Monomial)
+entry_products ring j c i [] = []
+entry_products ring j c i (v ∷ vs) = polynomial_sum ring (polynomial_product ring (entry i c) (entry j v.terms)) (entry_products ring j c (suc i) vs)
 
 -- the unit vector of a generator of degree d at position i
 abbrev pub unit_vector : ℤ → ℕ → Vector
@@ -33,6 +39,12 @@ identity ring degrees = record { ring = ring; target = degrees; rows = unit_rows
 -- the rows of a, then those of b
 abbrev pub stacked : Matrix → Matrix → Matrix
 stacked a b = record { ring = a.ring; target = a.target; rows = a.rows ++ b.rows }
+
+-- the ring is one, with a positive modulus, and the rows of b stand for the columns of a
+pub record IsComposable (a b : Matrix) : Type 0 where
+  pub positive : 0 < a.ring.modulus
+  pub rings : a.ring ≡ b.ring
+  pub degrees : row_degrees b ≡ a.target
 
 -- each row of a times b
 abbrev pub matrix_product : Matrix → Matrix → Matrix

@@ -1,17 +1,10 @@
 -- What holds of the product of graded matrices: they are the arrows of a category, whose objects are free modules.
 -- (Any textbook of linear algebra.)
 use Rattle.std.specs.Prelude.{◌≡◌, ℕ, ◌<◌, List, ℤ}
-use Rattle.sf_algebra.specs.CombinationLaws.{entry_products}
 use Rattle.sf_algebra.specs.Matrices.{Matrix, row_degrees, IsMatrix}
-use Rattle.sf_algebra.specs.MatrixOperations.{row_at, identity, matrix_product}
+use Rattle.sf_algebra.specs.MatrixOperations.{row_at, identity, matrix_product, entry_products, IsComposable}
 use Rattle.sf_algebra.specs.Rings.{Ring}
 use Rattle.sf_algebra.specs.Vectors.{entry}
-
--- the modulus is one and positive, and the rows of b stand for the columns of a
-pub record IsComposable (a b : Matrix) : Type 0 where
-  pub positive : 0 < a.ring.modulus
-  pub rings : a.ring ≡ b.ring
-  pub degrees : row_degrees b ≡ a.target
 
 -- a product is a matrix, whose rows have the degrees of the first factor's
 abbrev pub HasMatrixProducts : Type 0

@@ -52,10 +52,6 @@ exponent_sum a = a.e1 + a.e2 + a.e3 + a.e4 + a.e5 + a.e6
 abbrev pub monomial_degree : Weights → Monomial → ℕ
 monomial_degree weights a = weights.w1 * a.e1 + weights.w2 * a.e2 + weights.w3 * a.e3 + weights.w4 * a.e4 + weights.w5 * a.e5 + weights.w6 * a.e6
 
--- the greatest sum of exponents of a monomial that the program keeps
-abbrev pub GREATEST_SUM : ℕ
-GREATEST_SUM = 65535
-
 -- a greater degree is greater; at equal degrees, a is greater where the last exponent in which they differ is smaller in a
 abbrev pub monomial_cmp : Weights → Monomial → Monomial → Ordering
 monomial_cmp weights =

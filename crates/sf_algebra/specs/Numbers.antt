@@ -1,6 +1,7 @@
 -- Numbers in whose order monomials and places stand. Numbers with equally many digits compare by the first digit in which they
 -- differ. (Knuth, "The Art of Computer Programming", volume 2, section 4.1, on positional number systems.)
 use Rattle.std.specs.Prelude.{ℕ, ◌+◌, ◌-◌, ◌*◌, ◌^◌, ◌<◌, ◌≤◌}
+use Rattle.sf_algebra.specs.Bounds.{GREATEST_SUM}
 use Rattle.sf_algebra.specs.Monomials.{Monomial, exponent_sum}
 use Rattle.sf_algebra.specs.Vectors.{Place}
 
@@ -15,7 +16,7 @@ monomial_number a =
 
 -- the sum of the exponents is a digit, and so is each exponent
 abbrev pub HasDigits : Monomial → Type 0
-HasDigits a = exponent_sum a ≤ 65535
+HasDigits a = exponent_sum a ≤ GREATEST_SUM
 
 -- how far the position is before 2^64 - 1, and then the monomial's number
 abbrev pub place_number : Place → ℕ

@@ -1,8 +1,7 @@
 -- What holds of the transpose of a graded matrix, which goes between the dual free modules. (Any textbook of linear algebra.)
 use Rattle.std.specs.Prelude.{◌≡◌, ℕ, ◌<◌, List, map, ℤ, neg_ℤ}
 use Rattle.sf_algebra.specs.Matrices.{Matrix, row_degrees, IsMatrix}
-use Rattle.sf_algebra.specs.MatrixOperations.{row_at, identity, matrix_product, transposed}
-use Rattle.sf_algebra.specs.MatrixProductLaws.{IsComposable}
+use Rattle.sf_algebra.specs.MatrixOperations.{row_at, identity, matrix_product, transposed, IsComposable}
 use Rattle.sf_algebra.specs.Rings.{Ring}
 use Rattle.sf_algebra.specs.Vectors.{entry}
 

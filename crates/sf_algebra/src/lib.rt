@@ -14,6 +14,7 @@ mod order;
 mod place;
 mod polynomial;
 mod product;
+mod size;
 mod sum;
 mod vector;
 
@@ -30,5 +31,6 @@ pub use order::{monomial_order, monomial_order_in_words, place_order};
 pub use place::place_products;
 pub use polynomial::polynomials_are_a_ring;
 pub use product::monomial_products;
+pub use size::sizes_are_decided;
 pub use sum::{polynomial_sums, vector_sums};
 pub use vector::{vectors_are_a_group, vectors_are_graded};

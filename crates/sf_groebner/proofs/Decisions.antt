@@ -4,12 +4,13 @@ use Rattle.std.proofs.lemmas.Bool.{cases_lt}
 use Rattle.std.proofs.lemmas.Int.{by_lt_z}
 use Rattle.std.specs.Int.Signed.{clash_ℤ}
 use Rattle.std.specs.List.{AllByRecursion}
+use Rattle.sf_algebra.specs.Bounds.{GREATEST_SIZE, HasSmallSize, IsSmallDegree}
 use Rattle.sf_algebra.specs.Matrices.{Matrix, row_degrees}
 use Rattle.sf_algebra.specs.Monomials.{monomial_degree}
 use Rattle.sf_algebra.specs.Rings.{Weights}
 use Rattle.sf_algebra.specs.Terms.{Term}
 use Rattle.sf_algebra.specs.Vectors.{Place, Vector}
-use Rattle.sf_groebner.specs.Small.{GREATEST_SIZE, HasLeadUpTo, HasSmallSize, IsSmallDegree, IsWithinLimit}
+use Rattle.sf_groebner.specs.Small.{HasLeadUpTo, IsWithinLimit}
 
 -- a fact holds or doesn't
 abbrev pub IsDecided : Type 0 → Type 0

@@ -8,10 +8,10 @@ use Rattle.sf_algebra.specs.Multiples.{negative}
 use Rattle.sf_algebra.specs.Sums.{add}
 use Rattle.sf_algebra.specs.VectorOperations.{row_sum, vector_difference}
 use Rattle.sf_algebra.specs.Vectors.{Place, Vector, place_cmp, IsCanonicalRow}
+use Rattle.sf_groebner.specs.Maps.{AreEqualModulo, ActsOnClasses}
 use Rattle.sf_algebra.proofs.Groups.{left, minus-difference, difference-plus}
 use Rattle.sf_algebra.proofs.Rows.{row_combination-add, row_combination-multiple}
 use Rattle.sf_algebra.proofs.VectorGroups.{vectors}
-use Rattle.sf_groebner.specs.HomologyLaws.{AreEqualModulo, ActsOnClasses}
 use Rattle.sf_groebner.specs.Spans.{combined}
 use Rattle.sf_groebner.proofs.Modules.{IsModuleLike}
 use Rattle.sf_groebner.proofs.Spans.{combined-difference}
@@ -36,16 +36,10 @@ module _ (ring : Ring) (positive : IsRing ring) where
       subst N (λ i. record { degree = same.degrees i; terms = terms i })
       (module_like.differences u (vector_difference ring u v) inside same.difference refl)
 
--- a matrix that sends N into M and B into A acts on the classes
-pub acts_on_classes : (map : Matrix) → IsRing map.ring → (N B M A : Vector → Type 0) → ((v : Vector) → N v → IsCanonicalRow map.ring v.terms)
-    → ((v : Vector) → N v → M (combined map v)) → ((v : Vector) → B v → A (combined map v)) → ActsOnClasses N B M A map
-acts_on_classes map positive N B M A canonical elements zeros = record {
-  elements = elements;
-  zeros = zeros;
-  classes = λ u v h k same. record {
-    degrees = same.degrees;
-    difference = subst A (combined-difference map positive u v (canonical v k)) (zeros _ same.difference);
-  };
-  sums = λ us vs. row_combination-add map.ring positive.modulus map.rows us vs;
-  multiples = λ s us. row_combination-multiple map.ring positive.modulus map.rows s us;
+-- a matrix that sends B into A sends what is equal modulo B to what is equal modulo A
+pub combined-AreEqualModulo : (map : Matrix) → IsRing map.ring → (B A : Vector → Type 0) → ((v : Vector) → B v → A (combined map v))
+    → (u v : Vector) → IsCanonicalRow map.ring v.terms → AreEqualModulo map.ring B u v → AreEqualModulo map.ring A (combined map u) (combined map v)
+combined-AreEqualModulo map positive B A zeros u v canonical same = record {
+  degrees = same.degrees;
+  difference = subst A (combined-difference map positive u v canonical) (zeros _ same.difference);
 }

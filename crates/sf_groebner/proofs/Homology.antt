@@ -3,7 +3,7 @@ use Rattle.std.proofs.Common.{◌≡◌, ℕ, ◌<◌, sym, subst}
 use Rattle.sf_algebra.specs.Matrices.{Matrix, row_degrees, IsMatrix}
 use Rattle.sf_algebra.specs.MatrixOperations.{stacked}
 use Rattle.sf_algebra.specs.Rings.{Ring, IsRing}
-use Rattle.sf_groebner.specs.Homology.{IsAny, IsCycle, IsHomology, IsKernel, IsImage, IsCokernel}
+use Rattle.sf_groebner.specs.Homology.{ComplexPlace, IsAny, IsCycle, IsHomology, IsKernel, IsImage, IsCokernel}
 use Rattle.sf_groebner.specs.Spans.{InSpan}
 use Rattle.sf_groebner.proofs.MinimalGenerators.{HasOneBasis}
 use Rattle.sf_groebner.proofs.Modules.{IsModuleLike}
@@ -26,11 +26,11 @@ module _ (ring : Ring) (positive : IsRing ring) where
       (unique_reduced out.ring here (row_degrees out) (IsCycle out beyond)
       (relation_module out here beyond.target (InSpan beyond) (subst (λ q. IsModuleLike q beyond.target (InSpan beyond)) (sym first) (span_of beyond second matrix))))
 
-pub unique_homology : (arriving here out beyond : Matrix) → IsRing here.ring → arriving.ring ≡ here.ring → out.ring ≡ here.ring → beyond.ring ≡ here.ring
-    → IsMatrix (stacked arriving here) → IsMatrix beyond → (g r h s : Matrix) → IsHomology arriving here out beyond g r → IsHomology arriving here out beyond h s → (g ≡ h) × (r ≡ s)
-unique_homology arriving here out beyond positive first second third matrix other =
-    unique_presentation here.ring positive here.target arriving.target (IsCycle out beyond) (InSpan (stacked arriving here))
-    (one_cycle_basis here.ring positive out beyond second third other) (span_of here.ring positive (stacked arriving here) first matrix)
+pub unique_homology : (place : ComplexPlace) → IsRing place.here.ring → place.arriving.ring ≡ place.here.ring → place.out.ring ≡ place.here.ring → place.beyond.ring ≡ place.here.ring
+    → IsMatrix (stacked place.arriving place.here) → IsMatrix place.beyond → (g r h s : Matrix) → IsHomology place g r → IsHomology place h s → (g ≡ h) × (r ≡ s)
+unique_homology place positive first second third matrix other =
+    unique_presentation place.here.ring positive place.here.target place.arriving.target (IsCycle place.out place.beyond) (InSpan (stacked place.arriving place.here))
+    (one_cycle_basis place.here.ring positive place.out place.beyond second third other) (span_of place.here.ring positive (stacked place.arriving place.here) first matrix)
 
 pub unique_kernel : (source target map : Matrix) → IsRing source.ring → map.ring ≡ source.ring → target.ring ≡ source.ring
     → IsMatrix source → IsMatrix target → (g r h s : Matrix) → IsKernel source target map g r → IsKernel source target map h s → (g ≡ h) × (r ≡ s)

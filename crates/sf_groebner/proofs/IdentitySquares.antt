@@ -7,11 +7,12 @@ use Rattle.sf_algebra.specs.Rings.{Ring, IsRing}
 use Rattle.sf_algebra.specs.Sums.{add}
 use Rattle.sf_algebra.specs.VectorOperations.{row_sum}
 use Rattle.sf_algebra.specs.Vectors.{Vector, place_cmp, IsVector}
+use Rattle.sf_groebner.specs.Homology.{ComplexPlace}
+use Rattle.sf_groebner.specs.Maps.{IsMapInto, IsSquare, AreChainMaps}
 use Rattle.sf_algebra.proofs.HomogeneousVectors.{row_combination-identity}
 use Rattle.sf_algebra.proofs.Identities.{IsMatrix-identity, row_degrees-identity}
 use Rattle.sf_algebra.proofs.Keys.{place_keys}
 use Rattle.sf_algebra.proofs.Negatives.{add-negative}
-use Rattle.sf_groebner.specs.HomologyLaws.{IsMapInto, IsSquare, ComplexPlace, AreChainMaps}
 use Rattle.sf_groebner.specs.Spans.{combined, InSpan}
 use Rattle.sf_groebner.proofs.SpanCombinations.{span_submodule_of, zero-inside}
 use Rattle.sf_groebner.proofs.Squares.{IsVector-combined}

@@ -17,8 +17,7 @@ use Rattle.sf_algebra.proofs.RowSums.{row_sum-comm, row_sum-assoc, row_sum-nil}
 use Rattle.sf_algebra.proofs.Rows.{IsCanonical-row_combination, row_combination-add, row_combination-add_rows, row_combination-nil}
 use Rattle.sf_algebra.proofs.StackedRows.{row_combination-stacked}
 use Rattle.sf_algebra.proofs.Sums.{add_assoc, add_comm, add-nil}
-use Rattle.sf_groebner.specs.MinimalGenerators.{IsInSum, matrix_of, AreKept}
-use Rattle.sf_groebner.specs.MinimalLaws.{AreChosen}
+use Rattle.sf_groebner.specs.MinimalGenerators.{IsInSum, matrix_of, AreKept, AreChosen}
 use Rattle.sf_groebner.proofs.GraphParts.{IsWithin-coefficients}
 use Rattle.sf_groebner.proofs.PairedVectors.{paired_terms, paired_terms-parts, IsVector-pair}
 use Rattle.sf_groebner.proofs.SumsAndMultiples.{HasSumsAndMultiples, row_matrix, row_combination-scaled}

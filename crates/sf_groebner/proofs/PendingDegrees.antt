@@ -5,8 +5,7 @@ use Rattle.sf_algebra.specs.Matrices.{Matrix, IsMatrix}
 use Rattle.sf_algebra.specs.MatrixOperations.{row_combination}
 use Rattle.sf_algebra.specs.Rings.{IsRing}
 use Rattle.sf_algebra.specs.Vectors.{Vector}
-use Rattle.sf_groebner.specs.Criterion.{IsMonicRow, ReducesToZero}
-use Rattle.sf_groebner.specs.CriterionLaws.{HasDegreeUpTo}
+use Rattle.sf_groebner.specs.Criterion.{IsMonicRow, ReducesToZero, HasDegreeUpTo}
 use Rattle.sf_groebner.specs.ReducedBases.{HasDividedLead}
 use Rattle.sf_groebner.specs.Spans.{IsCoefficients}
 use Rattle.sf_groebner.proofs.BoundedCriterion.{buchberger_up_to}

@@ -3,8 +3,7 @@ use Rattle.std.proofs.Common.{◌≡◌, ◌≢◌, ◌⊎◌, ⊎_elim, inl, in
 use Rattle.std.proofs.lemmas.Bool.{cases_lt}
 use Rattle.sf_algebra.specs.Rings.{Ring, IsRing}
 use Rattle.sf_algebra.specs.Vectors.{Vector}
-use Rattle.sf_groebner.specs.Criterion.{HaveLeadsAtOnePosition, ReducesToZero, lcm_place, lead_at}
-use Rattle.sf_groebner.specs.CriterionLaws.{HasReducingPairs, IsPair}
+use Rattle.sf_groebner.specs.Criterion.{HaveLeadsAtOnePosition, ReducesToZero, lcm_place, lead_at, HasReducingPairs, IsPair}
 use Rattle.sf_groebner.specs.Leads.{PlaceDivides}
 use Rattle.sf_groebner.proofs.Buchberger.{ReducesToZero-chain, ReducesToZero-sym}
 use Rattle.sf_groebner.proofs.GrowingRows.{ReducesToZero-append, lead_at-append}

@@ -10,9 +10,8 @@ use Rattle.sf_algebra.proofs.HomogeneousVectors.{row_combination-identity}
 use Rattle.sf_algebra.proofs.Identities.{IsMatrix-identity, row_degrees-identity}
 use Rattle.sf_algebra.proofs.Stacks.{IsMatrix-stacked}
 use Rattle.sf_groebner.specs.Cuts.{IsFirstBlock}
-use Rattle.sf_groebner.specs.Homology.{IsAny, IsCokernel, IsCycle, IsHomology, IsImage, IsKernel}
+use Rattle.sf_groebner.specs.Homology.{ComplexPlace, IsComplexPlace, IsAny, IsCokernel, IsCycle, IsHomology, IsImage, IsKernel}
 use Rattle.sf_groebner.specs.MinimalGenerators.{matrix_of}
-use Rattle.sf_groebner.specs.PresentationExistenceLaws.{IsPlaceBetween}
 use Rattle.sf_groebner.specs.Presentations.{IsModuleMap, IsPresentation, IsRelation}
 use Rattle.sf_groebner.specs.ReducedBases.{IsReducedBasis}
 use Rattle.sf_groebner.specs.Spans.{InSpan, IsSyzygy}
@@ -83,14 +82,14 @@ module _ (ring : Ring) (prime : IsOverField ring) (target : List ℤ) (N : Vecto
 cycle-vector : (ring : Ring) (degrees : List ℤ) (out beyond : Matrix) → out.ring ≡ ring → row_degrees out ≡ degrees → (c : Vector) → IsCycle out beyond c → IsVector ring degrees c
 cycle-vector ring degrees out beyond rings same c h = subst (λ q. IsVector q degrees c) rings (subst (λ ds. IsVector out.ring ds c) same h.coefficients)
 
-pub homology_exists : (arriving here out beyond : Matrix) → IsOverField here.ring → IsPlaceBetween arriving here out beyond
-    → (generators : Matrix) × (relations : Matrix) × IsHomology arriving here out beyond generators relations
-homology_exists arriving here out beyond prime h =
-    presentation_exists here.ring prime here.target (IsCycle out beyond) (cycle-vector here.ring here.target out beyond h.out_ring h.out_degrees)
-    (subst (λ (q : Ring). HasBasis q.weights (IsCycle out beyond)) h.out_ring
-    (relation_basis out beyond (subst IsOverField (sym h.out_ring) prime) (h.out_ring ∙ sym h.beyond_ring) h.out_target h.out_matrix h.beyond_matrix))
-    (stacked arriving here) h.arriving_ring h.arriving_target
-    (IsMatrix-stacked arriving here h.arriving_ring h.arriving_target h.arriving_matrix h.here_matrix)
+pub homology_exists : (place : ComplexPlace) → IsOverField place.here.ring → IsComplexPlace place
+    → (generators : Matrix) × (relations : Matrix) × IsHomology place generators relations
+homology_exists place prime h =
+    presentation_exists place.here.ring prime place.here.target (IsCycle place.out place.beyond) (cycle-vector place.here.ring place.here.target place.out place.beyond h.out_ring h.out_degrees)
+    (subst (λ (q : Ring). HasBasis q.weights (IsCycle place.out place.beyond)) h.out_ring
+    (relation_basis place.out place.beyond (subst IsOverField (sym h.out_ring) prime) (h.out_ring ∙ sym h.beyond_ring) h.out_target h.out_matrix h.beyond_matrix))
+    (stacked place.arriving place.here) h.arriving_ring h.arriving_target
+    (IsMatrix-stacked place.arriving place.here h.arriving_ring h.arriving_target h.arriving_matrix h.here_matrix)
 
 pub kernel_exists : (source target map : Matrix) → IsOverField source.ring → IsMatrix source → IsMatrix target → IsModuleMap source target map
     → (generators : Matrix) × (relations : Matrix) × IsKernel source target map generators relations

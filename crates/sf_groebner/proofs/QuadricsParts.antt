@@ -1,6 +1,7 @@
 -- The example of two quadrics: what the reduced basis of its graph gives.
 use Rattle.std.proofs.Common.{◌≡◌, [], ◌∷◌, refl, subst, arith}
 use Rattle.std.proofs.lemmas.Int.{ints}
+use Rattle.sf_algebra.specs.Bounds.{HasSmallSize}
 use Rattle.sf_algebra.specs.Matrices.{row_degrees}
 use Rattle.sf_algebra.specs.Multiples.{combination, combination_terms}
 use Rattle.sf_algebra.specs.Residues.{sum_mod, product_mod}
@@ -8,7 +9,7 @@ use Rattle.sf_algebra.specs.Rings.{plain, ones}
 use Rattle.sf_algebra.specs.Sums.{normal, insert}
 use Rattle.sf_groebner.specs.Examples.{quadrics, other_coefficients, quadrics_syzygy, quadrics_graph_basis, HasQuadricsBasis, HasQuadricsSyzygy, HasThirdRowLift, HasSmallQuadrics, HasLargeQuadrics, RefusesOtherCoefficients, RefusesUnitAsSyzygy}
 use Rattle.sf_groebner.specs.ReducedBases.{IsReducedBy}
-use Rattle.sf_groebner.specs.Small.{HasSmallSize, IsWithinLimit}
+use Rattle.sf_groebner.specs.Small.{IsWithinLimit}
 use Rattle.sf_groebner.specs.Spans.{IsSyzygy, IsGraphVector, IsCoefficients, graph_degrees}
 use Rattle.sf_groebner.proofs.GraphLifts.{graph_lifts}
 use Rattle.sf_groebner.proofs.GraphParts.{reduced-span, reduced-syzygies}

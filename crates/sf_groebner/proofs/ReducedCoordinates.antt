@@ -20,7 +20,7 @@ use Rattle.sf_algebra.proofs.Sums.{add-nil_first}
 use Rattle.sf_groebner.specs.Cuts.{first_parts, IsFirstBlock}
 use Rattle.sf_groebner.specs.Lifts.{IsLift}
 use Rattle.sf_groebner.specs.MinimalGenerators.{IsInSum, matrix_of, AreMinimal}
-use Rattle.sf_groebner.specs.Presentations.{IsZero, IsRelation, IsReducedByRelations}
+use Rattle.sf_groebner.specs.Presentations.{IsZero, IsRelation, IsReducedByRelations, AreRelationsModulo}
 use Rattle.sf_groebner.specs.ReducedBases.{IsReducedBy, IsReducedBasis}
 use Rattle.sf_groebner.specs.Spans.{InSpan, IsSyzygy}
 use Rattle.sf_algebra.proofs.Weights.{field_ring}
@@ -85,26 +85,26 @@ module _ (ring : Ring) (prime : IsOverField ring) (target : List ℤ) (N : Vecto
       v (IsInSum-span (matrix_of ring target generators) positive v h)
 
 -- a matrix of relations of generators modulo the span of base, minimal modulo 0
-module _ (generators base relations : Matrix) (prime : IsOverField generators.ring) (rings : generators.ring ≡ base.ring) (is_matrix : IsMatrix base) (same_ring : relations.ring ≡ generators.ring) (same_target : relations.target ≡ row_degrees generators) (minimal : AreMinimal generators.ring (IsRelation generators (InSpan base)) IsZero relations.rows) where
+module _ (generators base relations : Matrix) (prime : IsOverField generators.ring) (given : AreRelationsModulo generators base relations) where
   relations_positive : IsRing generators.ring
   relations_positive = field_ring prime
 
   all_relations : IsSubmodule generators.ring (row_degrees generators) (IsRelation generators (InSpan base))
   all_relations =
-      let base_positive : IsRing base.ring = subst (λ q. IsRing q) rings relations_positive in
+      let base_positive : IsRing base.ring = subst (λ q. IsRing q) given.base_ring relations_positive in
       relation_submodule generators relations_positive base.target (InSpan base)
-      (subst (λ q. IsSubmodule q base.target (InSpan base)) (sym rings) (span_submodule base base_positive is_matrix))
+      (subst (λ q. IsSubmodule q base.target (InSpan base)) (sym given.base_ring) (span_submodule base base_positive given.base_matrix))
 
   as_rows : matrix_of generators.ring (row_degrees generators) relations.rows ≡ relations
-  as_rows = λ i. record { ring = sym same_ring i; target = sym same_target i; rows = relations.rows }
+  as_rows = λ i. record { ring = sym given.ring i; target = sym given.target i; rows = relations.rows }
 
   pub InSpan-relations : (c : Vector) → IsRelation generators (InSpan base) c → InSpan relations c
   InSpan-relations c h =
-      subst (λ m. InSpan m c) as_rows (InSpan-minimal generators.ring prime (row_degrees generators) (IsRelation generators (InSpan base)) all_relations relations.rows minimal c h)
+      subst (λ m. InSpan m c) as_rows (InSpan-minimal generators.ring prime (row_degrees generators) (IsRelation generators (InSpan base)) all_relations relations.rows given.minimal c h)
 
   pub IsRelation-span : (c : Vector) → InSpan relations c → IsRelation generators (InSpan base) c
   IsRelation-span c h =
-      InSpan-minimal_inside generators.ring prime (row_degrees generators) (IsRelation generators (InSpan base)) all_relations relations.rows minimal c (subst (λ m. InSpan m c) (sym as_rows) h)
+      InSpan-minimal_inside generators.ring prime (row_degrees generators) (IsRelation generators (InSpan base)) all_relations relations.rows given.minimal c (subst (λ m. InSpan m c) (sym as_rows) h)
 
   -- the first block of a lift is reduced by the relations
   pub reduced_coordinates : (v c : Vector) → IsLift (stacked generators base) v c → IsReducedByRelations relations (vector_part 0 (length generators.rows) c)
@@ -115,9 +115,9 @@ module _ (generators base relations : Matrix) (prime : IsOverField generators.ri
       record {
         basis = first_parts n h.syzygies;
         reduced_basis = IsReducedBasis-same relations.ring.weights (IsFirstBlock generators base) (InSpan relations)
-            (λ w k. InSpan-relations w ((IsRelation-blocks generators base relations_positive rings w).1 k))
-            (λ w k. (IsRelation-blocks generators base relations_positive rings w).0 (IsRelation-span w k))
-            (first_parts n h.syzygies) (subst (λ (q : Ring). IsReducedBasis q.weights (IsFirstBlock generators base) (first_parts n h.syzygies)) (sym same_ring) blocks);
+            (λ w k. InSpan-relations w ((IsRelation-blocks generators base relations_positive given.base_ring w).1 k))
+            (λ w k. (IsRelation-blocks generators base relations_positive given.base_ring w).0 (IsRelation-span w k))
+            (first_parts n h.syzygies) (subst (λ (q : Ring). IsReducedBasis q.weights (IsFirstBlock generators base) (first_parts n h.syzygies)) (sym given.ring) blocks);
         reduced = reduced-first_block m n h.syzygies c h.basis h.reduced;
       }
 

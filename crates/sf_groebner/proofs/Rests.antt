@@ -9,6 +9,7 @@ use Rattle.sf_algebra.specs.Sums.{add, normal}
 use Rattle.sf_algebra.specs.Terms.{Term, IsCanonical}
 use Rattle.sf_algebra.specs.VectorOperations.{row_sum, vector_difference}
 use Rattle.sf_algebra.specs.Vectors.{Place, Vector, place_cmp, IsVector, IsCanonicalRow}
+use Rattle.sf_groebner.specs.Divisions.{IsDivision}
 use Rattle.sf_algebra.proofs.Degrees.{IsHomogeneous-normal}
 use Rattle.sf_algebra.proofs.Keys.{place_keys}
 use Rattle.sf_algebra.proofs.Normal.{IsCanonical-normal}
@@ -16,7 +17,6 @@ use Rattle.sf_algebra.proofs.Orders.{place_cmp_linear}
 use Rattle.sf_algebra.proofs.RowSums.{row_sum-comm, row_sum-assoc, row_sum-nil_first}
 use Rattle.sf_algebra.proofs.Rows.{IsCanonical-row_combination}
 use Rattle.sf_algebra.proofs.Sums.{add_assoc, add_comm, add-nil_first}
-use Rattle.sf_groebner.specs.ExistenceLaws.{IsDivision}
 use Rattle.sf_groebner.specs.Presentations.{IsReducedByRelations}
 use Rattle.sf_groebner.specs.ReducedBases.{HasDividedLead, IsReducedBasis, IsSpanBasis}
 use Rattle.sf_groebner.specs.Spans.{InSpan}

@@ -9,13 +9,13 @@ use Rattle.sf_algebra.specs.Sums.{add}
 use Rattle.sf_algebra.specs.Terms.{Term, IsCanonical}
 use Rattle.sf_algebra.specs.VectorOperations.{row_sum}
 use Rattle.sf_algebra.specs.Vectors.{Place, Vector, place_cmp, IsVector, IsCanonicalRow}
+use Rattle.sf_groebner.specs.Maps.{IsSquare}
 use Rattle.sf_algebra.proofs.HomogeneousVectors.{IsVector-row_combination}
 use Rattle.sf_algebra.proofs.Orders.{place_cmp_linear}
 use Rattle.sf_algebra.proofs.RowSums.{row_sum-assoc}
 use Rattle.sf_algebra.proofs.Rows.{IsCanonical-row_combination, row_combination-add}
 use Rattle.sf_algebra.proofs.Sums.{add_assoc}
 use Rattle.sf_groebner.specs.Homology.{IsCycle}
-use Rattle.sf_groebner.specs.HomologyLaws.{IsSquare}
 use Rattle.sf_groebner.specs.MinimalGenerators.{IsInSum}
 use Rattle.sf_groebner.specs.Spans.{IsCoefficients, combined, InSpan}
 use Rattle.sf_groebner.proofs.EqualModulo.{add-negative_again, AreEqualModulo-inside}

@@ -1,9 +1,10 @@
 -- S-vectors of pairs of rows, and what it means that a pair reduces to zero. A row's lead is its first term; rows are those whose
 -- lead has the coefficient 1. (Cox, Little, O'Shea, "Using Algebraic Geometry", chapter 5, sections 2 and 3.)
-use Rattle.std.specs.Prelude.{◌≡◌, ℕ, ◌<◌, List, [], ◌∷◌, length, ℤ, pos, ◌+ℤ◌}
+use Rattle.std.specs.Prelude.{◌≡◌, ℕ, ◌<◌, List, [], ◌∷◌, length, ℤ, pos, ◌+ℤ◌, ◌≤ℤ◌}
 use Rattle.std.specs.declared.cmp.Ordering.TheVariants.{Less}
 use Rattle.std.specs.List.{AllByRecursion}
 use Rattle.sf_algebra.specs.Divisibility.{quotient, lcm}
+use Rattle.sf_algebra.specs.Matrices.{Matrix}
 use Rattle.sf_algebra.specs.MatrixOperations.{row_at, row_combination}
 use Rattle.sf_algebra.specs.Monomials.{one, monomial_degree}
 use Rattle.sf_algebra.specs.Multiples.{place_product}
@@ -12,8 +13,8 @@ use Rattle.sf_algebra.specs.Rings.{Ring, Weights}
 use Rattle.sf_algebra.specs.Sums.{normal, add}
 use Rattle.sf_algebra.specs.Terms.{Term, IsCanonical}
 use Rattle.sf_algebra.specs.VectorOperations.{row_sum}
-use Rattle.sf_algebra.specs.Vectors.{Place, Vector, place_cmp, generator_degree, IsCanonicalRow}
-use Rattle.sf_groebner.specs.ReducedBases.{IsMonic}
+use Rattle.sf_algebra.specs.Vectors.{Place, Vector, place_cmp, generator_degree, IsCanonicalRow, place_degree}
+use Rattle.sf_groebner.specs.ReducedBases.{IsMonic, HasDividedLead}
 
 -- where the first term of a list stands; at the first position with the monomial 1 where there is none
 abbrev pub lead_place : List (Term Place) → Place
@@ -73,3 +74,21 @@ pub record IsMonicRow (ring : Ring) (v : Vector) : Type 0 where
 -- the leads of two rows stand at one position
 abbrev pub HaveLeadsAtOnePosition : List Vector → ℕ → ℕ → Type 0
 HaveLeadsAtOnePosition rows i j = (lead_at rows i).position ≡ (lead_at rows j).position
+
+-- an earlier and a later row, whose leads stand at one position
+pub record IsPair (rows : List Vector) (i j : ℕ) : Type 0 where
+  pub earlier : i < j
+  pub later : j < length rows
+  pub positions : HaveLeadsAtOnePosition rows i j
+
+-- each lead of a combination of the rows is divided by the lead of a row: the rows are a Gröbner basis of what they span
+abbrev pub IsGroebnerBasis : Ring → List Vector → Type 0
+IsGroebnerBasis ring rows = (c : List (Term Place)) → AllByRecursion (IsForRows rows) c → HasDividedLead rows (row_combination ring rows c)
+
+-- all pairs of rows reduce to zero
+abbrev pub HasReducingPairs : Ring → List Vector → Type 0
+HasReducingPairs ring rows = (i j : ℕ) → IsPair rows i j → ReducesToZero ring rows i j
+
+-- the least common multiple of the leads of a pair has at most degree d
+abbrev pub HasDegreeUpTo : Matrix → ℤ → ℕ → ℕ → Type 0
+HasDegreeUpTo m d i j = place_degree m.ring.weights m.target (lcm_place (lead_at m.rows) i j) ≤ℤ d

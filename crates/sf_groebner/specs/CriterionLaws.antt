@@ -8,32 +8,14 @@ use Rattle.sf_algebra.specs.MatrixOperations.{row_at, row_combination}
 use Rattle.sf_algebra.specs.Rings.{Ring, IsRing}
 use Rattle.sf_algebra.specs.Terms.{Term}
 use Rattle.sf_algebra.specs.Vectors.{Place, Vector, place_cmp, place_degree}
-use Rattle.sf_groebner.specs.Criterion.{HaveLeadsAtOnePosition, IsForRows, IsMonicRow, IsPairSyzygy, ReducesToZero, lcm_place, lead_at, s_vector}
+use Rattle.sf_groebner.specs.Criterion.{HaveLeadsAtOnePosition, IsForRows, IsMonicRow, IsPairSyzygy, ReducesToZero, lcm_place, lead_at, s_vector, IsPair, IsGroebnerBasis, HasReducingPairs, HasDegreeUpTo}
 use Rattle.sf_groebner.specs.Leads.{PlaceDivides}
 use Rattle.sf_groebner.specs.ReducedBases.{HasDividedLead}
 use Rattle.sf_groebner.specs.Spans.{InSpan, IsCoefficients, IsSyzygy}
 
--- an earlier and a later row, whose leads stand at one position
-pub record IsPair (rows : List Vector) (i j : ℕ) : Type 0 where
-  pub earlier : i < j
-  pub later : j < length rows
-  pub positions : HaveLeadsAtOnePosition rows i j
-
--- each lead of a combination of the rows is divided by the lead of a row: the rows are a Gröbner basis of what they span
-abbrev pub IsGroebnerBasis : Ring → List Vector → Type 0
-IsGroebnerBasis ring rows = (c : List (Term Place)) → AllByRecursion (IsForRows rows) c → HasDividedLead rows (row_combination ring rows c)
-
--- all pairs of rows reduce to zero
-abbrev pub HasReducingPairs : Ring → List Vector → Type 0
-HasReducingPairs ring rows = (i j : ℕ) → IsPair rows i j → ReducesToZero ring rows i j
-
 -- Buchberger's criterion: rows are complete exactly where their pairs reduce to zero
 abbrev pub IsBuchbergersCriterion : Type 0
 IsBuchbergersCriterion = (ring : Ring) → IsRing ring → (rows : List Vector) → AllByRecursion (IsMonicRow ring) rows → IsGroebnerBasis ring rows ↔ HasReducingPairs ring rows
-
--- the least common multiple of the leads of a pair has at most degree d
-abbrev pub HasDegreeUpTo : Matrix → ℤ → ℕ → ℕ → Type 0
-HasDegreeUpTo m d i j = place_degree m.ring.weights m.target (lcm_place (lead_at m.rows) i j) ≤ℤ d
 
 -- up to a degree, homogeneous rows are complete where their pairs up to that degree reduce to zero
 abbrev pub IsCriterionUpToDegree : Type 0

@@ -9,11 +9,12 @@ use Rattle.sf_algebra.specs.Rings.{Ring, IsRing, IsOverField}
 use Rattle.sf_algebra.specs.Sums.{add}
 use Rattle.sf_algebra.specs.VectorOperations.{row_sum, vector_difference}
 use Rattle.sf_algebra.specs.Vectors.{Vector, place_cmp, IsVector}
+use Rattle.sf_groebner.specs.Divisions.{IsDivision}
 use Rattle.sf_groebner.specs.Lifts.{IsLift}
 use Rattle.sf_groebner.specs.MinimalGenerators.{matrix_of}
 use Rattle.sf_groebner.specs.Presentations.{IsReducedByRelations}
 use Rattle.sf_groebner.specs.ReducedBases.{IsReducedBasis, IsReducedBy, IsSpanBasis, IsSyzygyBasis, IsGraphBasis}
-use Rattle.sf_groebner.specs.Small.{IsSmall, IsLarge}
+use Rattle.sf_groebner.specs.Small.{IsSmall, IsLarge, IsAnswer}
 use Rattle.sf_groebner.specs.Spans.{InSpan, IsCoefficients, IsGraphVector, IsSyzygy}
 
 -- the graph has a reduced basis
@@ -28,11 +29,6 @@ HasSpanBasis = (m : Matrix) → IsOverField m.ring → IsMatrix m → (basis : L
 abbrev pub HasSyzygyBasis : Type 0
 HasSyzygyBasis = (m : Matrix) → IsOverField m.ring → IsMatrix m → (basis : List Vector) × IsSyzygyBasis m basis
 
--- the answer for a limit: the reduced basis of the graph where m is small, and none where it is large
-abbrev pub IsAnswer : ℕ → Matrix → Option (List Vector) → Type 0
-IsAnswer limit m (Some basis) = IsSmall limit m basis
-IsAnswer limit m None = IsLarge limit m
-
 -- there is an answer
 abbrev pub HasAnswer : Type 0
 HasAnswer = (limit : ℕ) (m : Matrix) → IsOverField m.ring → IsMatrix m → (answer : Option (List Vector)) × IsAnswer limit m answer
@@ -41,15 +37,6 @@ HasAnswer = (limit : ℕ) (m : Matrix) → IsOverField m.ring → IsMatrix m →
 abbrev pub HasNoOtherAnswer : Type 0
 HasNoOtherAnswer =
     (limit : ℕ) (m : Matrix) → IsRing m.ring → (a b : Option (List Vector)) → IsAnswer limit m a → IsAnswer limit m b → a ≡ b
-
--- v is the rest, no term of which a lead of the rows divides, and the combination of the rows with the quotients
-pub record IsDivision (ring : Ring) (target : List ℤ) (rows : List Vector) (v rest quotients : Vector) : Type 0 where
-  pub rest_vector : IsVector ring target rest
-  pub rest_degree : rest.degree ≡ v.degree
-  pub coefficients : IsCoefficients (matrix_of ring target rows) quotients
-  pub quotients_degree : quotients.degree ≡ v.degree
-  pub reduced : IsReducedBy rows rest.terms
-  pub sum : row_sum ring rest.terms (row_combination ring rows quotients.terms) ≡ v.terms
 
 -- a vector has a division by the reduced basis of a span
 abbrev pub HasDivisions : Type 0

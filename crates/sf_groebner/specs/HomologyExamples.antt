@@ -19,7 +19,8 @@ no_rows_at_all = record { ring = plain 101; target = []; rows = [] }
 
 -- each syzygy of x and y is a multiple of the row of the Koszul complex
 abbrev pub HasNoKoszulHomology : Type 0
-HasNoKoszulHomology = IsHomology koszul no_rows_between two_variables no_rows_below no_rows_between no_rows_at_all
+HasNoKoszulHomology =
+    IsHomology (record { arriving = koszul; here = no_rows_between; out = two_variables; beyond = no_rows_below }) no_rows_between no_rows_at_all
 
 -- the kernel of x and y is free, with that row as its generator
 abbrev pub HasKoszulKernel : Type 0

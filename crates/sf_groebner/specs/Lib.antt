@@ -4,8 +4,10 @@ pub mod ReducedBases
 pub mod Small
 pub mod Lifts
 pub mod MinimalGenerators
+pub mod Divisions
 pub mod Presentations
 pub mod Homology
+pub mod Maps
 pub mod Resolutions
 pub mod Criterion
 pub mod BasisLaws

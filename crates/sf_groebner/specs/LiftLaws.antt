@@ -11,7 +11,7 @@ use Rattle.sf_algebra.specs.Vectors.{Vector, place_cmp, IsVector}
 use Rattle.sf_groebner.specs.Cuts.{IsFirstBlock}
 use Rattle.sf_groebner.specs.Lifts.{IsLift}
 use Rattle.sf_groebner.specs.MinimalGenerators.{AreMinimal}
-use Rattle.sf_groebner.specs.Presentations.{IsZero, IsRelation, IsReducedByRelations}
+use Rattle.sf_groebner.specs.Presentations.{IsZero, IsRelation, IsReducedByRelations, AreRelationsModulo}
 use Rattle.sf_groebner.specs.ReducedBases.{IsReducedBy, IsReducedBasis}
 use Rattle.sf_groebner.specs.Spans.{InSpan}
 
@@ -28,17 +28,13 @@ HasReducedFirstBlocks =
 -- relations that are minimal modulo 0 span all relations
 abbrev pub HasSpanningRelations : Type 0
 HasSpanningRelations =
-    (generators base relations : Matrix) → IsOverField generators.ring → generators.ring ≡ base.ring → IsMatrix base
-    → relations.ring ≡ generators.ring → relations.target ≡ row_degrees generators
-    → AreMinimal generators.ring (IsRelation generators (InSpan base)) IsZero relations.rows
+    (generators base relations : Matrix) → IsOverField generators.ring → AreRelationsModulo generators base relations
     → (c : Vector) → IsRelation generators (InSpan base) c ↔ InSpan relations c
 
 -- the first block of a lift over generators and base, the coordinates, is reduced by such relations
 abbrev pub HasReducedCoordinates : Type 0
 HasReducedCoordinates =
-    (generators base relations : Matrix) → IsOverField generators.ring → generators.ring ≡ base.ring → IsMatrix base
-    → relations.ring ≡ generators.ring → relations.target ≡ row_degrees generators
-    → AreMinimal generators.ring (IsRelation generators (InSpan base)) IsZero relations.rows
+    (generators base relations : Matrix) → IsOverField generators.ring → AreRelationsModulo generators base relations
     → (v c : Vector) → IsLift (stacked generators base) v c → IsReducedByRelations relations (vector_part 0 (length generators.rows) c)
 
 -- vectors of one degree that are reduced by relations and differ by one of their span are equal

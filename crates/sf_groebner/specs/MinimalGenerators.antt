@@ -29,6 +29,13 @@ AreKept ring B earlier (v ∷ vs) kept =
     (IsInSum ring earlier B v × AreKept ring B (earlier ++ v ∷ []) vs kept)
     ⊎ ((IsInSum ring earlier B v → ⊥) × ((others : List Vector) × (kept ≡ v ∷ others) × AreKept ring B (earlier ++ v ∷ []) vs others))
 
+-- kept are those of the vectors, in order, that aren't in B plus the span of the vectors kept before
+abbrev pub AreChosen : Ring → (Vector → Type 0) → List Vector → List Vector → List Vector → Type 0
+AreChosen ring B before [] kept = kept ≡ []
+AreChosen ring B before (v ∷ vs) kept =
+    (IsInSum ring before B v × AreChosen ring B before vs kept)
+    ⊎ ((IsInSum ring before B v → ⊥) × ((others : List Vector) × (kept ≡ v ∷ others) × AreChosen ring B (before ++ v ∷ []) vs others))
+
 -- the minimal generators of N modulo B: those of its reduced basis that aren't in B plus the span of the earlier ones
 pub record AreMinimal (ring : Ring) (N B : Vector → Type 0) (generators : List Vector) : Type 0 where
   pub basis : List Vector

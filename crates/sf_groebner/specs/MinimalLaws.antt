@@ -4,16 +4,9 @@ use Rattle.sf_algebra.specs.Matrices.{Matrix, row_degrees, IsMatrix}
 use Rattle.sf_algebra.specs.Primes.{IsPrime}
 use Rattle.sf_algebra.specs.Rings.{Ring, IsRing, IsOverField}
 use Rattle.sf_algebra.specs.Vectors.{Vector}
-use Rattle.sf_groebner.specs.MinimalGenerators.{IsInSum, matrix_of, AreKept, AreMinimal}
+use Rattle.sf_groebner.specs.MinimalGenerators.{IsInSum, matrix_of, AreKept, AreMinimal, AreChosen}
 use Rattle.sf_groebner.specs.Presentations.{IsZero, IsRelation}
 use Rattle.sf_groebner.specs.Spans.{InSpan}
-
--- kept are those of the vectors, in order, that aren't in B plus the span of the vectors kept before
-abbrev pub AreChosen : Ring → (Vector → Type 0) → List Vector → List Vector → List Vector → Type 0
-AreChosen ring B before [] kept = kept ≡ []
-AreChosen ring B before (v ∷ vs) kept =
-    (IsInSum ring before B v × AreChosen ring B before vs kept)
-    ⊎ ((IsInSum ring before B v → ⊥) × ((others : List Vector) × (kept ≡ v ∷ others) × AreChosen ring B (before ++ v ∷ []) vs others))
 
 -- modulo a span, the vectors kept before do as well as all vectors before
 abbrev pub ChoosesModuloSpan : Type 0

@@ -4,28 +4,15 @@ use Rattle.std.specs.Prelude.{◌≡◌, ℕ, List, length}
 use Rattle.sf_algebra.specs.Matrices.{Matrix, row_degrees, IsMatrix}
 use Rattle.sf_algebra.specs.Primes.{IsPrime}
 use Rattle.sf_algebra.specs.Rings.{IsOverField}
-use Rattle.sf_groebner.specs.Homology.{IsHomology, IsKernel, IsImage, IsCokernel}
+use Rattle.sf_groebner.specs.Homology.{ComplexPlace, IsComplexPlace, IsHomology, IsKernel, IsImage, IsCokernel}
 use Rattle.sf_groebner.specs.Presentations.{IsModuleMap}
 use Rattle.sf_groebner.specs.Resolutions.{IsResolution}
-
--- the matrices that stand round a place are over one field, and their free modules meet
-pub record IsPlaceBetween (arriving here out beyond : Matrix) : Type 0 where
-  pub arriving_matrix : IsMatrix arriving
-  pub here_matrix : IsMatrix here
-  pub out_matrix : IsMatrix out
-  pub beyond_matrix : IsMatrix beyond
-  pub arriving_ring : arriving.ring ≡ here.ring
-  pub out_ring : out.ring ≡ here.ring
-  pub beyond_ring : beyond.ring ≡ here.ring
-  pub arriving_target : arriving.target ≡ here.target
-  pub out_degrees : row_degrees out ≡ here.target
-  pub out_target : out.target ≡ beyond.target
 
 -- a place has homology
 abbrev pub HasHomology : Type 0
 HasHomology =
-    (arriving here out beyond : Matrix) → IsOverField here.ring → IsPlaceBetween arriving here out beyond
-    → (generators : Matrix) × (relations : Matrix) × IsHomology arriving here out beyond generators relations
+    (place : ComplexPlace) → IsOverField place.here.ring → IsComplexPlace place
+    → (generators : Matrix) × (relations : Matrix) × IsHomology place generators relations
 
 -- a map has a kernel
 abbrev pub HasKernel : Type 0

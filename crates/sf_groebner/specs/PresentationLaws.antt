@@ -5,15 +5,14 @@ use Rattle.std.specs.List.{AllByRecursion}
 use Rattle.sf_algebra.specs.Matrices.{Matrix, row_degrees, IsMatrix}
 use Rattle.sf_algebra.specs.MatrixOperations.{stacked}
 use Rattle.sf_algebra.specs.Rings.{IsRing}
-use Rattle.sf_groebner.specs.Homology.{IsHomology, IsKernel, IsImage, IsCokernel}
+use Rattle.sf_groebner.specs.Homology.{ComplexPlace, IsHomology, IsKernel, IsImage, IsCokernel}
 use Rattle.sf_groebner.specs.Resolutions.{IsResolution}
 
 -- a place of a complex has at most one homology
 abbrev pub HasOneHomology : Type 0
 HasOneHomology =
-    (arriving here out beyond : Matrix) → IsRing here.ring → arriving.ring ≡ here.ring → out.ring ≡ here.ring → beyond.ring ≡ here.ring
-    → IsMatrix (stacked arriving here) → IsMatrix beyond → (g r h s : Matrix) → IsHomology arriving here out beyond g r → IsHomology arriving here out beyond h s
-    → (g ≡ h) × (r ≡ s)
+    (place : ComplexPlace) → IsRing place.here.ring → place.arriving.ring ≡ place.here.ring → place.out.ring ≡ place.here.ring → place.beyond.ring ≡ place.here.ring
+    → IsMatrix (stacked place.arriving place.here) → IsMatrix place.beyond → (g r h s : Matrix) → IsHomology place g r → IsHomology place h s → (g ≡ h) × (r ≡ s)
 
 -- a map has at most one kernel
 abbrev pub HasOneKernel : Type 0
@@ -42,8 +41,8 @@ HasOneResolution =
 -- generators and relations of a homology are matrices, where the coefficients of `out` are vectors over the target of `here`
 abbrev pub HasMatrixHomology : Type 0
 HasMatrixHomology =
-    (arriving here out beyond : Matrix) → out.ring ≡ here.ring → row_degrees out ≡ here.target
-    → (g r : Matrix) → IsHomology arriving here out beyond g r → IsMatrix g × IsMatrix r
+    (place : ComplexPlace) → place.out.ring ≡ place.here.ring → row_degrees place.out ≡ place.here.target
+    → (g r : Matrix) → IsHomology place g r → IsMatrix g × IsMatrix r
 
 -- the steps of a resolution are matrices
 abbrev pub HasMatrixSteps : Type 0

@@ -26,6 +26,14 @@ pub record IsPresentation (ring : Ring) (target : List ℤ) (N B : Vector → Ty
   pub relations_target : relations.target ≡ row_degrees generators
   pub relations_minimal : AreMinimal ring (IsRelation generators B) IsZero relations.rows
 
+-- the minimal relations of generators modulo the span of a base
+pub record AreRelationsModulo (generators base relations : Matrix) : Type 0 where
+  pub base_matrix : IsMatrix base
+  pub base_ring : generators.ring ≡ base.ring
+  pub ring : relations.ring ≡ generators.ring
+  pub target : relations.target ≡ row_degrees generators
+  pub minimal : AreMinimal generators.ring (IsRelation generators (InSpan base)) IsZero relations.rows
+
 -- a matrix is a map from the module with the relations `source` to that with the relations `target`: the free modules meet, and it
 -- sends relations into relations
 pub record IsModuleMap (source target map : Matrix) : Type 0 where

@@ -6,7 +6,8 @@ pub fn lifts_are_unique()
     ensures first_blocks { HasReducedFirstBlocks }
 {}
 
-/// The relations of a presentation span all relations; coordinates are reduced by them, and are the only such ones.
+/// Modulo a prime the minimal relations of generators modulo a base span all their relations, and reduce the first block of a
+/// lift over both; and two vectors of one degree that are reduced by relations and differ by one of their span are equal.
 pub fn coordinates_are_unique()
     ensures relations { HasSpanningRelations }
     ensures coordinates { HasReducedCoordinates }

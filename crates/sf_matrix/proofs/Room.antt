@@ -3,8 +3,9 @@ use Rattle.std.proofs.Common.{◌≡◌, ℕ, ◌+◌, ◌≤◌, List, map, ℤ
 use Rattle.std.proofs.lemmas.Int.{ints}
 use Rattle.std.specs.List.{AllByRecursion}
 use Rattle.std.proofs.lemmas.Option.{slice_get-get_or}
+use Rattle.sf_algebra.specs.Bounds.{GREATEST_SUM}
 use Rattle.sf_algebra.specs.Matrices.{Matrix, IsMatrix, row_degrees}
-use Rattle.sf_algebra.specs.Monomials.{Monomial, GREATEST_SUM, exponent_sum, monomial_degree}
+use Rattle.sf_algebra.specs.Monomials.{Monomial, exponent_sum, monomial_degree}
 use Rattle.sf_algebra.specs.MatrixOperations.{row_at}
 use Rattle.sf_algebra.specs.Rings.{Ring, Weights, IsPositive}
 use Rattle.sf_algebra.specs.Terms.{IsNonzeroResidue}

@@ -1,7 +1,8 @@
 -- What keeps products of terms within the room of a monomial.
 use Rattle.std.specs.Prelude.{ℕ, ◌+◌, ◌*◌, ◌^◌, ◌<◌, ◌≤◌, List, ℤ, pos, neg_ℤ, ◌+ℤ◌, ◌≤ℤ◌}
 use Rattle.std.specs.List.{AllByRecursion}
-use Rattle.sf_algebra.specs.Monomials.{Monomial, GREATEST_SUM, exponent_sum}
+use Rattle.sf_algebra.specs.Bounds.{GREATEST_SUM}
+use Rattle.sf_algebra.specs.Monomials.{Monomial, exponent_sum}
 use Rattle.sf_algebra.specs.Terms.{Term}
 use Rattle.sf_algebra.specs.Vectors.{Place, Vector}
 
@@ -44,7 +45,3 @@ PositionsFit n ts us = AllByRecursion (λ (t : Term Place). (t.at.position * n <
 -- the products of each term of each row with each term of each of the others have room
 abbrev pub KroneckerFits : List Vector → List Vector → Type 0
 KroneckerFits rows others = AllByRecursion (λ (v : Vector). AllByRecursion (λ (w : Vector). TermsFit v.terms w.terms) others) rows
-
--- at most 4,096 rows and columns, and degrees from -8,000 to 8,000
-abbrev pub Fits : ℕ → ℕ → ℤ → ℤ → Type 0
-Fits rows columns low high = (rows ≤ 4096) × ((columns ≤ 4096) × ((neg_ℤ (pos 8000) ≤ℤ low) × (high ≤ℤ pos 8000)))

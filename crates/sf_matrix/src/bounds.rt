@@ -1,5 +1,5 @@
 ghost use Rattle.std.specs.Prelude.{◌↔◌, IsTrue};
-ghost use Rattle.sf_matrix.specs.Bounds.{Fits};
+ghost use Rattle.sf_algebra.specs.Bounds.{Fits};
 
 const GREATEST_SIZE: u64 = 4096;
 

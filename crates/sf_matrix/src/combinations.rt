@@ -1,7 +1,8 @@
 ghost use Rattle.std.specs.Prelude.{◌≡◌, ◌+◌, ◌<◌, ◌≤◌, ◌++◌, length, map, IfOk, OnOk};
 ghost use Rattle.std.specs.List.{AllByRecursion};
+ghost use Rattle.sf_algebra.specs.Bounds.{GREATEST_SUM};
 ghost use Rattle.sf_algebra.specs.MatrixOperations.{row_at, row_combination};
-ghost use Rattle.sf_algebra.specs.Monomials.{GREATEST_SUM, exponent_sum};
+ghost use Rattle.sf_algebra.specs.Monomials.{exponent_sum};
 ghost use Rattle.sf_algebra.specs.Multiples.{place_product, term_product};
 ghost use Rattle.sf_algebra.specs.Rings.{plain, ones};
 ghost use Rattle.sf_algebra.specs.Terms.{IsCanonical, IsNonzeroResidue};

@@ -5,7 +5,8 @@ use Rattle.std.specs.declared.cmp.Ordering.TheVariants.{Less}
 use Rattle.std.specs.List.{AllByRecursion}
 use Rattle.std.specs.Ordering.{nat_cmp, ordering_then}
 use Rattle.std.proofs.lemmas.Bool.Decides.{nat_tests}
-use Rattle.sf_algebra.specs.Monomials.{Monomial, GREATEST_SUM, monomial_cmp, exponent_sum, monomial_degree}
+use Rattle.sf_algebra.specs.Bounds.{GREATEST_SUM}
+use Rattle.sf_algebra.specs.Monomials.{Monomial, monomial_cmp, exponent_sum, monomial_degree}
 use Rattle.sf_algebra.specs.Rings.{ones}
 use Rattle.sf_algebra.specs.Terms.{Term, IsDescending}
 use Rattle.sf_algebra.proofs.Lists.{AllByRecursion-weaken}

@@ -1,7 +1,8 @@
 -- What keeps products of terms within the room of a monomial.
 use Rattle.std.specs.Prelude.{ℕ, ◌+◌, ◌≤◌, List, IfSome}
 use Rattle.std.specs.List.{AllByRecursion}
-use Rattle.sf_algebra.specs.Monomials.{Monomial, GREATEST_SUM, exponent_sum}
+use Rattle.sf_algebra.specs.Bounds.{GREATEST_SUM}
+use Rattle.sf_algebra.specs.Monomials.{Monomial, exponent_sum}
 use Rattle.sf_algebra.specs.Terms.{Term}
 use Rattle.sf_poly.specs.Polynomials.{degree}
 

@@ -1,5 +1,6 @@
 ghost use Rattle.std.specs.Prelude.{◌≡◌, ◌+◌, ◌<◌, ◌≤◌};
-ghost use Rattle.sf_algebra.specs.Monomials.{GREATEST_SUM, product, exponent_sum};
+ghost use Rattle.sf_algebra.specs.Bounds.{GREATEST_SUM};
+ghost use Rattle.sf_algebra.specs.Monomials.{product, exponent_sum};
 ghost use Rattle.sf_algebra.specs.Multiples.{term_product};
 
 use sf_field::Modulus;

@@ -1,3 +1,4 @@
+use Rattle.std.proofs.Common.{[]}
 use Rattle.sf_groebner.specs.Presentations.{IsZero}
 use Rattle.sf_groebner.specs.Spans.{InSpan}
 use Rattle.sf_groebner.proofs.KeptGenerators.{AreKept-chosen}
@@ -7,5 +8,5 @@ use Rattle.sf_groebner.proofs.minimal.minimal_generators_are_chosen.Goals as goa
 pub returns : goal.returns
 returns c = record {
   span = λ base positive matrix. AreKept-chosen base.ring base.target (InSpan base) positive (span_closed base positive);
-  zero = λ ring positive target. AreKept-chosen ring target IsZero positive (zero_closed ring positive);
+  zero = λ ring positive. AreKept-chosen ring [] IsZero positive (zero_closed ring positive);
 }

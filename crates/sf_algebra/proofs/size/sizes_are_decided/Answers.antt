@@ -1,0 +1,5 @@
+use Rattle.sf_algebra.proofs.Sizes.{HasSmallSize-Fits}
+use Rattle.sf_algebra.proofs.size.sizes_are_decided.Goals as goal
+
+pub returns : goal.returns
+returns c = HasSmallSize-Fits
