@@ -10,12 +10,12 @@ use Rattle.sf_algebra.specs.Rings.{Ring, Weights, IsPositive, plain, ones}
 use Rattle.sf_algebra.specs.Sums.{normal}
 use Rattle.sf_algebra.specs.Terms.{Term, IsCanonical}
 use Rattle.sf_algebra.specs.Vectors.{Place, Vector, IsVector, place_cmp, generator_degree, IsTermOfDegree, IsHomogeneous}
-use Rattle.sf_algebra.proofs.Degrees.{IsHomogeneous-normal}
-use Rattle.sf_algebra.proofs.Identities.{IsMatrix-identity, row_degrees-identity}
-use Rattle.sf_algebra.proofs.Lists.{AllByRecursion-weaken}
+use Rattle.sf_algebra.proofs.Basics.Lists.{AllByRecursion-weaken}
+use Rattle.sf_algebra.proofs.GradedMatrices.Identities.{IsMatrix-identity, row_degrees-identity}
+use Rattle.sf_algebra.proofs.Monomials.Weights.{exponent_sum-at_most, ones_positive}
+use Rattle.sf_algebra.proofs.Vectors.Degrees.{IsHomogeneous-normal}
 use Rattle.sf_matrix.specs.Bounds.{IsDegree, SumsFit, KroneckerFits}
 use Rattle.algebra_bench.specs.Operands.{AreFlat, IsLow, IsOperand}
-use Rattle.sf_algebra.proofs.Weights.{exponent_sum-at_most, ones_positive}
 
 -- the degree of a generator that is there
 generator_degree-flat : (ds : List ℤ) (i : ℕ) → AllByRecursion (λ (d : ℤ). d ≡ pos 0) ds → i < length ds → generator_degree ds i ≡ pos 0

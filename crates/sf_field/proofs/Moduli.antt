@@ -1,9 +1,9 @@
 use Rattle.std.proofs.Common.{◌≡◌, ℕ, ◌<◌, ◌≤◌, Bool, true, List, [], ◌∷◌, ◌==◌, inl, inr, subst, refl, arith, nat_lt, nat_le, eqb-true}
 use Rattle.std.proofs.lemmas.Bool.{and_parts, leb-true, ltb-true, or_cases}
 use Rattle.std.specs.List.{list_all, list_any}
-use Rattle.sf_field.specs.Moduli.{moduli, is_modulus, EachModulus}
 use Rattle.sf_algebra.specs.Primes.{IsPrime}
-use Rattle.sf_algebra.proofs.Primes.{no_factor, prime_from}
+use Rattle.sf_algebra.proofs.Arithmetic.Primes.{no_factor, prime_from}
+use Rattle.sf_field.specs.Moduli.{moduli, is_modulus, EachModulus}
 
 -- a test that each number of a list passes is passed by a number that the list has
 pub test_from_list_all : (test : ℕ → Bool) (xs : List ℕ) (n : ℕ) → list_all test xs ≡ true → list_any (λ m. m == n) xs ≡ true → test n ≡ true

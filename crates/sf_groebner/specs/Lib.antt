@@ -1,4 +1,5 @@
 pub mod Leads
+pub mod LeadLaws
 pub mod Spans
 pub mod ReducedBases
 pub mod Small

@@ -10,6 +10,7 @@ mod criterion;
 mod examples;
 mod existence;
 mod graph;
+mod lead;
 mod lift;
 mod minimal;
 mod presentation;
@@ -24,6 +25,7 @@ pub use existence::{
     presentations_exist, reduced_bases_exist,
 };
 pub use graph::graph_parts;
+pub use lead::divisors_are_tested;
 pub use lift::{coordinates_are_unique, lifts_are_unique};
 pub use minimal::{minimal_generators_are_chosen, minimal_generators_are_unique};
 pub use presentation::{presentations_are_matrices, presentations_are_unique};

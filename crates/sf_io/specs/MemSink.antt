@@ -1,8 +1,8 @@
 -- A sink in memory.
 use Rattle.std.specs.Prelude.{ℕ, ◌-◌, List, ◌++◌, take}
-use Rattle.sf_io.specs.declared.sink.Push.{Push}
-use Rattle.sf_io.specs.declared.sink.Push.TheVariants.{Took, Failed}
 use Rattle.sf_io.specs.Calls.{Calls, one_call_more, one_fault_more}
+use Rattle.sf_io.specs.declared.sink.Push.TheVariants.{Took, Failed}
+use Rattle.sf_io.specs.declared.sink.Push.{Push}
 
 -- the bytes that were written, the greatest piece, for how many bytes room is left, and the calls
 pub record SinkInMemory : Type 0 where

@@ -1,8 +1,8 @@
 -- A source in memory.
 use Rattle.std.specs.Prelude.{ℕ, ◌+◌, List, drop}
-use Rattle.sf_io.specs.declared.source.Pull.{Pull}
-use Rattle.sf_io.specs.declared.source.Pull.TheVariants.{Got, End, Failed}
 use Rattle.sf_io.specs.Calls.{Calls, one_call_more, one_fault_more}
+use Rattle.sf_io.specs.declared.source.Pull.TheVariants.{Got, End, Failed}
+use Rattle.sf_io.specs.declared.source.Pull.{Pull}
 
 -- the bytes that are left, the greatest piece, how many bytes were given, and the calls
 pub record SourceInMemory : Type 0 where

@@ -1,9 +1,9 @@
 -- What one pull, and pulls in turn, do to a source.
 use Rattle.std.specs.Prelude.{ℕ, List, length, Option}
 use Rattle.std.specs.Io.KnownBytes.{Consumes}
-use Rattle.sf_io.specs.declared.source.Pull.{Pull}
-use Rattle.sf_io.specs.declared.source.Pull.TheVariants.{Got, End, Failed}
 use Rattle.sf_io.specs.Count.{RoseBy}
+use Rattle.sf_io.specs.declared.source.Pull.TheVariants.{Got, End, Failed}
+use Rattle.sf_io.specs.declared.source.Pull.{Pull}
 
 -- the fact for the number of bytes, where the pull gave some
 abbrev pub IfGot : Pull → (ℕ → Type 0) → Type 0

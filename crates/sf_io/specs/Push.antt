@@ -1,7 +1,7 @@
 -- What one push does to a sink.
 use Rattle.std.specs.Prelude.{ℕ}
-use Rattle.sf_io.specs.declared.sink.Push.{Push}
 use Rattle.sf_io.specs.declared.sink.Push.TheVariants.{Took, Failed}
+use Rattle.sf_io.specs.declared.sink.Push.{Push}
 
 -- the fact for the number of bytes, where the push took some
 abbrev pub IfTook : Push → (ℕ → Type 0) → Type 0

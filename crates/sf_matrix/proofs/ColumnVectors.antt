@@ -8,8 +8,8 @@ use Rattle.sf_algebra.specs.MatrixOperations.{column_terms, column_rows, transpo
 use Rattle.sf_algebra.specs.Rings.{Ring}
 use Rattle.sf_algebra.specs.Terms.{Term, IsDescending}
 use Rattle.sf_algebra.specs.Vectors.{Place, Vector, IsVector, place_cmp}
-use Rattle.sf_algebra.proofs.Columns.{IsDescending-column_terms, residues-column_terms}
-use Rattle.sf_algebra.proofs.Lists.{AllByRecursion-weaken}
+use Rattle.sf_algebra.proofs.Basics.Lists.{AllByRecursion-weaken}
+use Rattle.sf_algebra.proofs.GradedMatrices.Columns.{IsDescending-column_terms, residues-column_terms}
 use Rattle.sf_matrix.specs.Columns.{column_lists, vectors_of}
 
 -- the columns of rows as vectors are the rows of the transpose

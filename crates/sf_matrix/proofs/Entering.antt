@@ -7,10 +7,10 @@ use Rattle.std.proofs.lemmas.List.{drop_more, length-take-le}
 use Rattle.sf_algebra.specs.MatrixOperations.{at_position}
 use Rattle.sf_algebra.specs.Terms.{Term}
 use Rattle.sf_algebra.specs.Vectors.{Place, Vector, entry}
-use Rattle.sf_algebra.proofs.Columns.{column_terms-push}
-use Rattle.sf_algebra.proofs.Entries.{entry-here, entry-elsewhere}
-use Rattle.sf_algebra.proofs.Lists.{take-slice_get}
-use Rattle.sf_algebra.proofs.Positions.{entry-append}
+use Rattle.sf_algebra.proofs.Basics.Lists.{take-slice_get}
+use Rattle.sf_algebra.proofs.GradedMatrices.Columns.{column_terms-push}
+use Rattle.sf_algebra.proofs.Vectors.Entries.{entry-here, entry-elsewhere}
+use Rattle.sf_algebra.proofs.Vectors.Positions.{entry-append}
 use Rattle.sf_matrix.specs.Columns.{entered, column_lists}
 
 -- a term in another row

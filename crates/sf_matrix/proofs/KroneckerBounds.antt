@@ -4,8 +4,8 @@ use Rattle.std.proofs.Math.Nat.{mul-le-mul_right}
 use Rattle.std.specs.List.{AllByRecursion}
 use Rattle.sf_algebra.specs.Rings.{Ring}
 use Rattle.sf_algebra.specs.Vectors.{Vector, IsVector}
-use Rattle.sf_algebra.proofs.KroneckerVectors.{pair_below}
-use Rattle.sf_algebra.proofs.Lists.{AllByRecursion-weaken}
+use Rattle.sf_algebra.proofs.Basics.Lists.{AllByRecursion-weaken}
+use Rattle.sf_algebra.proofs.Tensors.KroneckerVectors.{pair_below}
 use Rattle.sf_matrix.specs.Bounds.{IsDegree, SumsFit, PositionsFit}
 use Rattle.sf_matrix.proofs.Pieces.{AllByRecursion-unmap}
 

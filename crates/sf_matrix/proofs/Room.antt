@@ -5,15 +5,15 @@ use Rattle.std.specs.List.{AllByRecursion}
 use Rattle.std.proofs.lemmas.Option.{slice_get-get_or}
 use Rattle.sf_algebra.specs.Bounds.{GREATEST_SUM}
 use Rattle.sf_algebra.specs.Matrices.{Matrix, IsMatrix, row_degrees}
-use Rattle.sf_algebra.specs.Monomials.{Monomial, exponent_sum, monomial_degree}
 use Rattle.sf_algebra.specs.MatrixOperations.{row_at}
+use Rattle.sf_algebra.specs.Monomials.{Monomial, exponent_sum, monomial_degree}
 use Rattle.sf_algebra.specs.Rings.{Ring, Weights, IsPositive}
 use Rattle.sf_algebra.specs.Terms.{IsNonzeroResidue}
 use Rattle.sf_algebra.specs.Vectors.{Vector, IsVector, generator_degree}
-use Rattle.sf_algebra.proofs.Degrees.{IsHomogeneous-row_at}
-use Rattle.sf_algebra.proofs.Lists.{AllByRecursion-get, AllByRecursion-weaken}
+use Rattle.sf_algebra.proofs.Basics.Lists.{AllByRecursion-get, AllByRecursion-weaken}
+use Rattle.sf_algebra.proofs.Monomials.Weights.{exponent_sum-at_most}
+use Rattle.sf_algebra.proofs.Vectors.Degrees.{IsHomogeneous-row_at}
 use Rattle.sf_matrix.specs.Bounds.{CombinationFits, DegreeFits}
-use Rattle.sf_algebra.proofs.Weights.{exponent_sum-at_most}
 
 sums_fit : (weights : Weights) → IsPositive weights → (d c e : ℤ) (a b : Monomial) → d ≡ c +ℤ pos (monomial_degree weights a) → c ≡ e +ℤ pos (monomial_degree weights b) → d ≤ℤ (e +ℤ pos GREATEST_SUM) → exponent_sum a + exponent_sum b ≤ GREATEST_SUM
 sums_fit weights positive d c e a b first second bound =

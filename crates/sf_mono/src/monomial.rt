@@ -1,14 +1,18 @@
 ghost use Rattle.std.specs.Prelude.{◌≡◌, ◌+◌, ◌<◌, ◌≤◌, ◌↔◌, IsSome, IfSome, IsTrue, sum, slice_index, refl};
 ghost use Rattle.std.specs.Cmp.{partial_order_from_agreeing_total};
 ghost use Rattle.std.specs.Ordering.{as_partial_cmp};
+ghost use Rattle.sf_algebra.specs.Bounds.{GREATEST_SUM};
 ghost use Rattle.sf_algebra.specs.Divisibility.{Divides, quotient, lcm};
 ghost use Rattle.sf_algebra.specs.Monomials.{VARIABLES, one, product, exponents, from_exponents, exponent_sum, monomial_degree, monomial_cmp};
 ghost use Rattle.sf_algebra.specs.Rings.{ones};
-ghost use Rattle.sf_algebra.proofs.MonomialEquality.{same_exponents-monomial_cmp};
-ghost use Rattle.sf_algebra.proofs.Orders.{monomial_cmp_total};
+ghost use Rattle.sf_algebra.proofs.Monomials.MonomialEquality.{same_exponents-monomial_cmp};
+ghost use Rattle.sf_algebra.proofs.Monomials.Orders.{monomial_cmp_total};
 
 use std::cmp::Ordering;
 use std::marker::Model;
+
+/// The greatest sum of the exponents of a monomial.
+const GREATEST_SUM: u32 = 65_535;
 
 /// A monomial in six variables, whose exponents have a sum of at most 65,535. Contracts see it as its six exponents.
 ///
@@ -26,13 +30,14 @@ pub struct Mono {
 
 impl Model for Mono {
     ghost use Rattle.std.specs.Prelude.{◌+◌, ◌≤◌};
+    ghost use Rattle.sf_algebra.specs.Bounds.{GREATEST_SUM};
     ghost use Rattle.sf_algebra.specs.Monomials.{Monomial};
 
     ghost Value = { Monomial };
 
     ghost view = { λ a. record { e1 = a.e1; e2 = a.e2; e3 = a.e3; e4 = a.e4; e5 = a.e5; e6 = a.e6 } };
 
-    ghost invariant = { λ a. a.e1 + a.e2 + a.e3 + a.e4 + a.e5 + a.e6 ≤ 65535 };
+    ghost invariant = { λ a. a.e1 + a.e2 + a.e3 + a.e4 + a.e5 + a.e6 ≤ GREATEST_SUM };
 
     ghost inverse = { λ a. record { e1 = a.e1; e2 = a.e2; e3 = a.e3; e4 = a.e4; e5 = a.e5; e6 = a.e6 } };
 }
@@ -54,12 +59,12 @@ impl Mono {
 
     /// The monomial with these exponents, or `None` exactly where their sum is above 65,535.
     pub fn from_exponents(exponents: [u16; 6]) -> Option<Mono>
-        ensures fits { IsSome result ↔ (sum exponents ≤ 65535) }
+        ensures fits { IsSome result ↔ (sum exponents ≤ GREATEST_SUM) }
         ensures value { IfSome result (λ a. a ≡ from_exponents exponents) }
     {
         let [e1, e2, e3, e4, e5, e6] = exponents;
         let total = e1 as u32 + e2 as u32 + e3 as u32 + e4 as u32 + e5 as u32 + e6 as u32;
-        if total <= 65535 {
+        if total <= GREATEST_SUM {
             Some(Mono {
                 e1,
                 e2,
@@ -91,7 +96,7 @@ impl Mono {
     /// The sum of the exponents.
     pub fn sum(self) -> u32
         ensures sum { result ≡ exponent_sum self }
-        ensures bounded { result ≤ 65535 }
+        ensures bounded { result ≤ GREATEST_SUM }
     {
         self.e1 as u32
             + self.e2 as u32
@@ -112,7 +117,7 @@ impl Mono {
     ///
     /// It fits where the sums of the factors' exponents add to at most 65,535.
     pub fn mul(self, other: Mono) -> Mono
-        requires fits { exponent_sum self + exponent_sum other ≤ 65535 }
+        requires fits { exponent_sum self + exponent_sum other ≤ GREATEST_SUM }
         ensures product { result ≡ product self other }
     {
         Mono {
@@ -156,7 +161,7 @@ impl Mono {
     ///
     /// It fits where the sum of its exponents is at most 65,535.
     pub fn lcm(self, other: Mono) -> Mono
-        requires fits { exponent_sum (lcm self other) ≤ 65535 }
+        requires fits { exponent_sum (lcm self other) ≤ GREATEST_SUM }
         ensures lcm { result ≡ lcm self other }
     {
         Mono {
@@ -179,7 +184,7 @@ impl Ord for Mono {
 
     ghost matches_eq = { same_exponents-monomial_cmp ones };
 
-    #[tactic(auto, using(sf_algebra::proofs::Comparisons::ordering_then_assoc))]
+    #[tactic(auto, using(sf_algebra::proofs::Monomials::Comparisons::ordering_then_assoc))]
     fn cmp(&self, other: &Mono) -> Ordering {
         self.degree()
             .cmp(&other.degree())

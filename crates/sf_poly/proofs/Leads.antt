@@ -9,9 +9,9 @@ use Rattle.sf_algebra.specs.Bounds.{GREATEST_SUM}
 use Rattle.sf_algebra.specs.Monomials.{Monomial, monomial_cmp, exponent_sum, monomial_degree}
 use Rattle.sf_algebra.specs.Rings.{ones}
 use Rattle.sf_algebra.specs.Terms.{Term, IsDescending}
-use Rattle.sf_algebra.proofs.Lists.{AllByRecursion-weaken}
-use Rattle.sf_poly.specs.Polynomials.{lead}
+use Rattle.sf_algebra.proofs.Basics.Lists.{AllByRecursion-weaken}
 use Rattle.sf_poly.specs.Bounds.{IsBoundedBy, HasRoom, MultipleFits, ProductFits}
+use Rattle.sf_poly.specs.Polynomials.{lead}
 
 nat_cmp-lead : (m n : ℕ) (o : Ordering) → ordering_then (nat_cmp m n) o ≡ Less → m ≤ n
 nat_cmp-lead m n o e = grind (arith, nat_tests)

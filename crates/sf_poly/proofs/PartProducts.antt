@@ -9,9 +9,9 @@ use Rattle.sf_algebra.specs.Primes.{IsPrime}
 use Rattle.sf_algebra.specs.Rings.{plain, ones}
 use Rattle.sf_algebra.specs.Sums.{add}
 use Rattle.sf_algebra.specs.Terms.{Term, IsCanonical, IsNonzeroResidue}
-use Rattle.sf_algebra.proofs.Keys.{monomial_keys}
-use Rattle.sf_algebra.proofs.Polynomials.{polynomial_product-append}
-use Rattle.sf_algebra.proofs.PrimeMultiples.{IsCanonical-map_term_product, multiple-map}
+use Rattle.sf_algebra.proofs.Multiplying.Keys.{monomial_keys}
+use Rattle.sf_algebra.proofs.Multiplying.Polynomials.{polynomial_product-append}
+use Rattle.sf_algebra.proofs.Multiplying.PrimeMultiples.{IsCanonical-map_term_product, multiple-map}
 
 -- a modulus of which there is a nonzero residue is positive
 pub positive_from_residues : (p : ℕ) (us : List (Term Monomial)) → 0 < length us → AllByRecursion (IsNonzeroResidue p) us → 0 < p

@@ -7,8 +7,8 @@ use Rattle.std.proofs.Common.{ap}
 use Rattle.std.proofs.lemmas.Bool.Decides.{Decides-and, Decides-eqb, Decides-like}
 use Rattle.sf_algebra.specs.Monomials.{Monomial}
 use Rattle.sf_algebra.specs.Terms.{Term}
-use Rattle.sf_algebra.proofs.Equality.{same_ring, Decides-same_ring}
-use Rattle.sf_algebra.proofs.MonomialEquality.{same_exponents, Decides-same_exponents}
+use Rattle.sf_algebra.proofs.GradedMatrices.Equality.{same_ring, Decides-same_ring}
+use Rattle.sf_algebra.proofs.Monomials.MonomialEquality.{same_exponents, Decides-same_exponents}
 use Rattle.sf_poly.specs.Polynomials.{Polynomial}
 
 abbrev pub same_term : Term Monomial → Term Monomial → Bool

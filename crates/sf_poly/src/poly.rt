@@ -1,4 +1,5 @@
 ghost use Rattle.std.specs.Prelude.{◌≡◌, ◌<◌, ◌≤◌, [], length, slice_get, Some, IfSome, IfOk, IsTrue, ◌↔◌};
+ghost use Rattle.sf_algebra.specs.Bounds.{GREATEST_SUM};
 ghost use Rattle.sf_algebra.specs.Multiples.{negative};
 ghost use Rattle.sf_algebra.specs.Polynomials.{polynomial_sum, polynomial_multiple, polynomial_product};
 ghost use Rattle.sf_algebra.specs.Rings.{plain};
@@ -142,7 +143,7 @@ impl Poly {
     pub fn degree(&self) -> Option<u32>
         ensures degree { result ≡ degree self.now.terms }
         ensures greatest { IfSome result (λ d. IsBoundedBy d self.now.terms) }
-        ensures bounded { IfSome result (λ d. d ≤ 65535) }
+        ensures bounded { IfSome result (λ d. d ≤ GREATEST_SUM) }
     {
         let first = self.terms.first()?;
         Some(first.monomial.sum())

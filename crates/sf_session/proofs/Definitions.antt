@@ -4,13 +4,13 @@ use Rattle.std.specs.Prelude.{not, is_some, ℤ}
 use Rattle.std.specs.Option.{option_map}
 use Rattle.std.specs.List.{list_all}
 use Rattle.sf_algebra.specs.Matrices.{Matrix}
-use Rattle.sf_session.specs.State.{module_named, is_degree}
-use Rattle.sf_session.specs.Raw.{RawTerm}
 use Rattle.sf_session.specs.Placed.{has_shape, relations_of, first_fault}
+use Rattle.sf_session.specs.Raw.{RawTerm}
 use Rattle.sf_session.specs.Refusals.{refused_if, unless_refused, first_unknown, definition}
+use Rattle.sf_session.specs.State.{module_named, is_degree}
 use Rattle.sf_session.specs.declared.heads.Ring.{Ring}
-use Rattle.sf_session.specs.declared.refusal.Refusal.{Refusal}
 use Rattle.sf_session.specs.declared.refusal.Refusal.TheVariants.{Unknown, Taken, Shape, Degree, Range}
+use Rattle.sf_session.specs.declared.refusal.Refusal.{Refusal}
 
 refused_first : {X : Type 0} (x : X) (reason : Option Refusal) (others : List (Option Refusal)) (refusal : Refusal)
     → reason ≡ Some refusal → unless_refused x (reason ∷ others) ≡ Err refusal

@@ -1,10 +1,10 @@
 -- Some lines, and so a script, have exactly one output, and what was written before the end is a beginning of it.
 use Rattle.std.proofs.Common.{◌≡◌, ℕ, List, [], ◌∷◌, ◌++◌, refl, sym, ap, subst, ◌∙◌, append_assoc}
-use Rattle.sf_session.specs.Words.{script_lines}
-use Rattle.sf_session.specs.State.{State, start}
+use Rattle.sf_session.specs.Laws.{HasOneReply, HasOneOutput, FrontBeginsOutput}
 use Rattle.sf_session.specs.Replies.{Step}
 use Rattle.sf_session.specs.Scripts.{Answers, IsReply}
-use Rattle.sf_session.specs.Laws.{HasOneReply, HasOneOutput, FrontBeginsOutput}
+use Rattle.sf_session.specs.State.{State, start}
+use Rattle.sf_session.specs.Words.{script_lines}
 use Rattle.sf_session.proofs.OneReply.{IsOne, IsOne-Step}
 
 pub IsOne-Answers : (old : State) (lines : List (List ℕ)) → IsOne (Answers old lines)

@@ -2,16 +2,16 @@
 use Rattle.std.proofs.Common.{◌≡◌, ℕ, List, [], Bool, true, false, Option, Some, None, Result, Ok, Err, refl}
 use Rattle.std.specs.Prelude.{MatchOption, MatchResult}
 use Rattle.std.specs.Bool.{MatchBool}
-use Rattle.sf_session.specs.State.{State, ring_of, opens, enters, module_named}
-use Rattle.sf_session.specs.Refusals.{refusal_text, definition}
 use Rattle.sf_session.specs.Grammar.{line_of}
+use Rattle.sf_session.specs.Refusals.{refusal_text, definition}
 use Rattle.sf_session.specs.Replies.{Gives, Refused, Carried, Answered, Step, syntax_text}
-use Rattle.sf_session.specs.declared.command.Command.{Command}
+use Rattle.sf_session.specs.State.{State, ring_of, opens, enters, module_named}
 use Rattle.sf_session.specs.declared.command.Command.TheVariants.{Spectral, Ring, Module, Show, Later}
-use Rattle.sf_session.specs.declared.refusal.Refusal.{Refusal}
-use Rattle.sf_session.specs.declared.refusal.Refusal.TheVariants.{Unbuilt, Heading, Unknown}
-use Rattle.sf_session.specs.declared.command.Line.{Line}
+use Rattle.sf_session.specs.declared.command.Command.{Command}
 use Rattle.sf_session.specs.declared.command.Line.TheVariants.{Silent, Malformed, Read}
+use Rattle.sf_session.specs.declared.command.Line.{Line}
+use Rattle.sf_session.specs.declared.refusal.Refusal.TheVariants.{Unbuilt, Heading, Unknown}
+use Rattle.sf_session.specs.declared.refusal.Refusal.{Refusal}
 
 -- a relation between a reply and a state that exactly one pair meets
 pub record IsOne (P : List ℕ → State → Type 0) : Type 0 where

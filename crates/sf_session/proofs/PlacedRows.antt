@@ -7,10 +7,10 @@ use Rattle.sf_algebra.specs.Rings.{plain, ones}
 use Rattle.sf_algebra.specs.Sums.{normal}
 use Rattle.sf_algebra.specs.Terms.{Term, IsCanonical}
 use Rattle.sf_algebra.specs.Vectors.{Place, place_cmp, place_degree, IsHomogeneous, IsVector}
-use Rattle.sf_algebra.proofs.Lists.{AllByRecursion-append}
-use Rattle.sf_algebra.proofs.Normal.{EachPlace, EachPlace-normal}
-use Rattle.sf_session.specs.Raw.{RawTerm}
+use Rattle.sf_algebra.proofs.Basics.Lists.{AllByRecursion-append}
+use Rattle.sf_algebra.proofs.Terms.Normal.{EachPlace, EachPlace-normal}
 use Rattle.sf_session.specs.Placed.{placed_term, placed_terms}
+use Rattle.sf_session.specs.Raw.{RawTerm}
 use Rattle.sf_session.specs.declared.heads.Ring.{Ring}
 use Rattle.sf_session.proofs.Digits.{&&-true}
 

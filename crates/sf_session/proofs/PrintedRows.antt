@@ -4,16 +4,16 @@ use Rattle.std.specs.List.{AllByRecursion, slice_get, range_with_len}
 use Rattle.std.proofs.lemmas.List.{take-append-drop}
 use Rattle.std.proofs.lemmas.List.FromFn.{length-range_with_len, get_or-range_with_len}
 use Rattle.std.proofs.lemmas.Option.{slice_get-get_or}
+use Rattle.sf_algebra.specs.Printing.{polynomial_text, row_text, comma}
 use Rattle.sf_algebra.specs.Rings.{ones}
 use Rattle.sf_algebra.specs.Terms.{Term, IsDescending}
 use Rattle.sf_algebra.specs.Vectors.{Place, place_cmp, entry}
-use Rattle.sf_algebra.specs.Printing.{polynomial_text, row_text, comma}
-use Rattle.sf_algebra.proofs.Lists.{AllByRecursion-weaken}
-use Rattle.sf_algebra.proofs.Drops.{drop-slice_get}
-use Rattle.sf_algebra.proofs.Descending.{IsDescending-back}
-use Rattle.sf_algebra.proofs.Entries.{without_position, entry-here, entry-elsewhere, entry-past, IsDescending-positions}
-use Rattle.sf_session.specs.Joins.{separator_after}
+use Rattle.sf_algebra.proofs.Basics.Descending.{IsDescending-back}
+use Rattle.sf_algebra.proofs.Basics.Drops.{drop-slice_get}
+use Rattle.sf_algebra.proofs.Basics.Lists.{AllByRecursion-weaken}
+use Rattle.sf_algebra.proofs.Vectors.Entries.{without_position, entry-here, entry-elsewhere, entry-past, IsDescending-positions}
 use Rattle.sf_session.specs.Columns.{IsFromColumn, SameEntriesPast}
+use Rattle.sf_session.specs.Joins.{separator_after}
 use Rattle.sf_session.proofs.JoinedItems.{joined_from, joined_from-start, joined_from-end, joined_from_more}
 
 module _ (column : ℕ) (ts : List (Term Place)) (k : ℕ) where

@@ -5,10 +5,10 @@ use Rattle.std.proofs.lemmas.Bool.Decides.{nat_tests}
 use Rattle.std.proofs.lemmas.List.{append-nil}
 use Rattle.std.proofs.lemmas.Fmt.{decimal_digit}
 use Rattle.std.specs.Fmt.{decimal}
-use Rattle.sf_algebra.specs.Terms.{Term}
 use Rattle.sf_algebra.specs.Monomials.{Monomial, exponents, exponent_sum}
 use Rattle.sf_algebra.specs.Printing.{factor_texts, power_text, term_text, polynomial_text, star, plus}
-use Rattle.sf_algebra.proofs.Factors.{factor_texts-power, factor_texts-end, factor_texts-one}
+use Rattle.sf_algebra.specs.Terms.{Term}
+use Rattle.sf_algebra.proofs.Basics.Factors.{factor_texts-power, factor_texts-end, factor_texts-one}
 use Rattle.sf_session.specs.Joins.{separator_after, joined_after}
 use Rattle.sf_session.proofs.JoinedItems.{written, written_all, joined_after-false}
 

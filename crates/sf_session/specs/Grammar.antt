@@ -3,13 +3,13 @@ use Rattle.std.specs.Prelude.{ℕ, Bool, ◌&&◌, ◌||◌, if◌then◌else◌
 use Rattle.std.specs.Option.{option_map, option_map_or}
 use Rattle.std.specs.List.{list_all, list_any}
 use Rattle.std.specs.Str.{bytes_eq}
-use Rattle.sf_session.specs.Words.{words, begins_with, is_space, is_name, is_number, number_value, is_integer, integer_value}
-use Rattle.sf_session.specs.Placed.{is_written_degree}
 use Rattle.sf_session.specs.MatrixText.{matrix_of}
-use Rattle.sf_session.specs.declared.command.Command.{Command}
+use Rattle.sf_session.specs.Placed.{is_written_degree}
+use Rattle.sf_session.specs.Words.{words, begins_with, is_space, is_name, is_number, number_value, is_integer, integer_value}
 use Rattle.sf_session.specs.declared.command.Command.TheVariants.{Spectral, Ring, Module, Show, Later}
-use Rattle.sf_session.specs.declared.command.Line.{Line}
+use Rattle.sf_session.specs.declared.command.Command.{Command}
 use Rattle.sf_session.specs.declared.command.Line.TheVariants.{Silent, Malformed, Read}
+use Rattle.sf_session.specs.declared.command.Line.{Line}
 
 -- the element of a list that has one
 abbrev pub only : {X : Type 0} → List X → Option X

@@ -3,8 +3,8 @@
 use Rattle.std.specs.Prelude.{ℕ, Bool, true, false, ◌-◌, ◌&&◌, ◌||◌, ◌==◌, nat_le, if◌then◌else◌, Option, Some, None, option_and_then, List, [], ◌∷◌, length, take, drop, slice_index}
 use Rattle.std.specs.Option.{option_map}
 use Rattle.sf_algebra.specs.Printing.{comma, semicolon, plus, star}
-use Rattle.sf_session.specs.Words.{parts, before, behind, begins_with, is_name, is_number, are_digits, number_value}
 use Rattle.sf_session.specs.Raw.{RawTerm}
+use Rattle.sf_session.specs.Words.{parts, before, behind, begins_with, is_name, is_number, are_digits, number_value}
 use Rattle.sf_session.specs.declared.raw.RawMatrix.{RawMatrix}
 
 abbrev pub minus : ℕ

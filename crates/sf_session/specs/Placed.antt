@@ -3,15 +3,15 @@ use Rattle.std.specs.Prelude.{ℕ, Bool, ◌+◌, ◌%◌, ◌&&◌, ◌==◌, i
 use Rattle.std.specs.Ordering.{int_eq}
 use Rattle.std.specs.List.{list_all}
 use Rattle.std.specs.Str.{bytes_eq}
-use Rattle.sf_algebra.specs.Residues.{negative_mod}
+use Rattle.sf_algebra.specs.Matrices.{Matrix}
 use Rattle.sf_algebra.specs.Monomials.{Monomial, from_exponents}
+use Rattle.sf_algebra.specs.Residues.{negative_mod}
 use Rattle.sf_algebra.specs.Rings.{plain, ones}
+use Rattle.sf_algebra.specs.Sums.{normal}
 use Rattle.sf_algebra.specs.Terms.{Term}
 use Rattle.sf_algebra.specs.Vectors.{Place, Vector, place_cmp, place_degree, row_degree}
-use Rattle.sf_algebra.specs.Matrices.{Matrix}
-use Rattle.sf_algebra.specs.Sums.{normal}
-use Rattle.sf_session.specs.declared.heads.Ring.{Ring}
 use Rattle.sf_session.specs.Raw.{RawTerm}
+use Rattle.sf_session.specs.declared.heads.Ring.{Ring}
 
 -- the sum of a variable's exponents in some factors
 abbrev pub exponent_in : List (List ℕ × ℕ) → List ℕ → ℕ

@@ -4,12 +4,12 @@ use Rattle.std.specs.Option.{option_map}
 use Rattle.std.specs.List.{list_all}
 use Rattle.sf_algebra.specs.Matrices.{Matrix}
 use Rattle.sf_session.specs.Grammar.{◌>>=◌}
-use Rattle.sf_session.specs.State.{is_among, module_named, is_degree}
-use Rattle.sf_session.specs.Raw.{RawTerm}
 use Rattle.sf_session.specs.Placed.{has_shape, relations_of, first_fault}
+use Rattle.sf_session.specs.Raw.{RawTerm}
+use Rattle.sf_session.specs.State.{is_among, module_named, is_degree}
 use Rattle.sf_session.specs.declared.heads.Ring.{Ring}
-use Rattle.sf_session.specs.declared.refusal.Refusal.{Refusal}
 use Rattle.sf_session.specs.declared.refusal.Refusal.TheVariants.{Unbuilt, Heading, Unknown, Taken, Shape, Degree, Range}
+use Rattle.sf_session.specs.declared.refusal.Refusal.{Refusal}
 
 abbrev pub later_text : List ℕ
 later_text = codes "error later\n"

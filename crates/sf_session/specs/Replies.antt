@@ -4,15 +4,15 @@ use Rattle.std.specs.Bool.{MatchBool}
 use Rattle.sf_algebra.specs.Matrices.{Matrix}
 use Rattle.sf_algebra.specs.Printing.{degrees_text, matrix_text}
 use Rattle.sf_session.specs.Grammar.{line_of}
-use Rattle.sf_session.specs.State.{State, ring_of, opens, enters, module_named}
 use Rattle.sf_session.specs.Refusals.{refusal_text, definition}
-use Rattle.sf_session.specs.declared.command.Command.{Command}
+use Rattle.sf_session.specs.State.{State, ring_of, opens, enters, module_named}
 use Rattle.sf_session.specs.declared.command.Command.TheVariants.{Spectral, Ring, Module, Show, Later}
-use Rattle.sf_session.specs.declared.command.Line.{Line}
+use Rattle.sf_session.specs.declared.command.Command.{Command}
 use Rattle.sf_session.specs.declared.command.Line.TheVariants.{Silent, Malformed, Read}
+use Rattle.sf_session.specs.declared.command.Line.{Line}
 use Rattle.sf_session.specs.declared.heads.Heads.TheVariants.{Opened, Within}
-use Rattle.sf_session.specs.declared.refusal.Refusal.{Refusal}
 use Rattle.sf_session.specs.declared.refusal.Refusal.TheVariants.{Unbuilt, Heading, Unknown}
+use Rattle.sf_session.specs.declared.refusal.Refusal.{Refusal}
 
 abbrev pub ok_text : List ℕ
 ok_text = codes "ok\n"

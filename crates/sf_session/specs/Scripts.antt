@@ -1,10 +1,10 @@
 -- The output of a script, and what a run of the program leaves.
 use Rattle.std.specs.Prelude.{◌≡◌, ℕ, ◌+◌, ◌<◌, ◌≤◌, List, [], ◌∷◌, ◌++◌, length}
-use Rattle.sf_session.specs.Words.{script_lines}
-use Rattle.sf_session.specs.State.{State, start}
 use Rattle.sf_session.specs.Replies.{Step}
-use Rattle.sf_session.specs.declared.execution.Status.{Status}
+use Rattle.sf_session.specs.State.{State, start}
+use Rattle.sf_session.specs.Words.{script_lines}
 use Rattle.sf_session.specs.declared.execution.Status.TheVariants.{Done, Usage, ReadFault, WriteFault, Memory, TooLong, Refused}
+use Rattle.sf_session.specs.declared.execution.Status.{Status}
 
 -- the replies to some lines, one after another, and the state after the last
 abbrev pub Answers : State → List (List ℕ) → List ℕ → State → Type 0

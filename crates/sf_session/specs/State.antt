@@ -4,11 +4,11 @@ use Rattle.std.specs.Ordering.{int_eq}
 use Rattle.std.specs.List.{list_any}
 use Rattle.std.specs.Map.{lookup}
 use Rattle.std.specs.Str.{bytes_eq}
-use Rattle.sf_field.specs.Moduli.{is_modulus}
 use Rattle.sf_algebra.specs.Matrices.{Matrix}
-use Rattle.sf_session.specs.declared.heads.Ring.{Ring}
-use Rattle.sf_session.specs.declared.heads.Heads.{Heads}
+use Rattle.sf_field.specs.Moduli.{is_modulus}
 use Rattle.sf_session.specs.declared.heads.Heads.TheVariants.{Unopened, Opened, Within}
+use Rattle.sf_session.specs.declared.heads.Heads.{Heads}
+use Rattle.sf_session.specs.declared.heads.Ring.{Ring}
 
 -- the headings that were accepted, and the relations of each module, which stand over its generators, in the order of definition
 pub record State : Type 0 where

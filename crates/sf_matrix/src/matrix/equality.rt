@@ -1,7 +1,7 @@
 ghost use Rattle.std.specs.Prelude.{◌++◌};
 ghost use Rattle.std.specs.Hash as fed;
 ghost use Rattle.std.proofs.Common.{ap};
-ghost use Rattle.sf_algebra.proofs.Equality.{same_matrix, Decides-same_matrix, same_matrix_per, same_matrix_equiv};
+ghost use Rattle.sf_algebra.proofs.GradedMatrices.Equality.{same_matrix, Decides-same_matrix, same_matrix_per, same_matrix_equiv};
 
 use crate::matrix::Matrix;
 use crate::vector::Vector;

@@ -1,7 +1,7 @@
 ghost use Rattle.std.specs.Prelude.{◌++◌};
 ghost use Rattle.std.specs.Hash as fed;
 ghost use Rattle.std.proofs.Common.{ap};
-ghost use Rattle.sf_algebra.proofs.Equality.{same_vector, Decides-same_vector, same_vector_per, same_vector_equiv};
+ghost use Rattle.sf_algebra.proofs.GradedMatrices.Equality.{same_vector, Decides-same_vector, same_vector_per, same_vector_equiv};
 
 use crate::vector::{Term, Vector};
 use std::hash::{Hash, Hasher};

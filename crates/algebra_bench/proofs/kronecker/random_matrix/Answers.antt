@@ -1,8 +1,8 @@
 use Rattle.std.proofs.Common.{rules, subst, sym}
 use Rattle.sf_algebra.specs.Rings.{Ring, IsPositive, plain}
 use Rattle.sf_algebra.specs.Vectors.{IsVector}
+use Rattle.sf_algebra.proofs.Monomials.Weights.{ones_positive}
 use Rattle.algebra_bench.proofs.kronecker.random_matrix.Goals as goal
-use Rattle.sf_algebra.proofs.Weights.{ones_positive}
 
 pub returns-clause-operand : goal.returns-clause-operand
 returns-clause-operand c = record {

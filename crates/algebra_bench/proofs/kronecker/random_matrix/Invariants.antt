@@ -1,8 +1,8 @@
 use Rattle.std.specs.Prelude.{◌≡◌}
 use Rattle.std.specs.List.{AllByRecursion}
 use Rattle.sf_algebra.specs.Matrices.{row_degrees}
-use Rattle.algebra_bench.specs.Operands.{AreFlat, IsLow}
 use Rattle.sf_algebra.specs.Rings.{plain}
+use Rattle.algebra_bench.specs.Operands.{AreFlat, IsLow}
 use Rattle.algebra_bench.proofs.kronecker.random_matrix.Given as goal
 
 abbrev pub invariant-loop : goal.invariant-loop

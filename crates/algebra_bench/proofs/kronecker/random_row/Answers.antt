@@ -1,5 +1,5 @@
-use Rattle.algebra_bench.proofs.Operands.{IsVector-meant}
 use Rattle.std.proofs.Common.{rules}
+use Rattle.algebra_bench.proofs.Operands.{IsVector-meant}
 use Rattle.algebra_bench.proofs.kronecker.random_row.Goals as goal
 
 pub returns-clause-vector : goal.returns-clause-vector

@@ -1,13 +1,13 @@
 use Rattle.std.proofs.Common.{refl, sym}
 use Rattle.sf_algebra.specs.MatrixOperations.{row_at}
-use Rattle.sf_algebra.proofs.Combinations.{coefficient_at-combination}
-use Rattle.sf_algebra.proofs.EntryProducts.{entry-row_combination_products}
-use Rattle.sf_algebra.proofs.HomogeneousVectors.{HasCanonicalRows-from_IsMatrix}
-use Rattle.sf_algebra.proofs.Keys.{place_keys}
-use Rattle.sf_algebra.proofs.RowParts.{row_combination-negated}
-use Rattle.sf_algebra.proofs.Rows.{IsCanonical-row_combination, row_combination-one, row_combination-add, row_combination-add_rows, row_combination-multiple, row_combination-negative, row_combination-matrix_product}
-use Rattle.sf_algebra.proofs.StackedRows.{row_combination-stacked}
-use Rattle.sf_algebra.proofs.UnitRows.{row_combination-unit, row_combination-unit_rows}
+use Rattle.sf_algebra.proofs.Multiplying.Combinations.{coefficient_at-combination}
+use Rattle.sf_algebra.proofs.Multiplying.Keys.{place_keys}
+use Rattle.sf_algebra.proofs.Vectors.EntryProducts.{entry-row_combination_products}
+use Rattle.sf_algebra.proofs.Vectors.HomogeneousVectors.{HasCanonicalRows-from_IsMatrix}
+use Rattle.sf_algebra.proofs.Vectors.RowParts.{row_combination-negated}
+use Rattle.sf_algebra.proofs.Vectors.Rows.{IsCanonical-row_combination, row_combination-one, row_combination-add, row_combination-add_rows, row_combination-multiple, row_combination-negative, row_combination-matrix_product}
+use Rattle.sf_algebra.proofs.Vectors.StackedRows.{row_combination-stacked}
+use Rattle.sf_algebra.proofs.Vectors.UnitRows.{row_combination-unit, row_combination-unit_rows}
 use Rattle.sf_algebra.proofs.combination.matrices_act.Goals as goal
 
 pub returns : goal.returns

@@ -1,6 +1,6 @@
 use Rattle.std.proofs.Common.{sym}
-use Rattle.sf_algebra.proofs.Products.{monomial_degree-product}
-use Rattle.sf_algebra.proofs.Weights.{degree_by_ones, exponent_sum-at_most, monomial_degree-variable}
+use Rattle.sf_algebra.proofs.Monomials.Products.{monomial_degree-product}
+use Rattle.sf_algebra.proofs.Monomials.Weights.{degree_by_ones, exponent_sum-at_most, monomial_degree-variable}
 use Rattle.sf_algebra.proofs.degree.monomial_degrees.Goals as goal
 
 pub returns : goal.returns

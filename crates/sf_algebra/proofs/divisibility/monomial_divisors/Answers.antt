@@ -1,4 +1,4 @@
-use Rattle.sf_algebra.proofs.Divisors.{Divides-iff, Divides-refl, Divides-trans, Divides-antisymm, Divides-monomial_cmp}
+use Rattle.sf_algebra.proofs.Monomials.Divisors.{Divides-iff, Divides-refl, Divides-trans, Divides-antisymm, Divides-monomial_cmp}
 use Rattle.sf_algebra.proofs.divisibility.monomial_divisors.Goals as goal
 
 pub returns : goal.returns

@@ -1,4 +1,4 @@
-use Rattle.sf_algebra.proofs.Divisors.{lcm-multiple, lcm-least, lcm-sum, monomial_degree-lcm}
+use Rattle.sf_algebra.proofs.Monomials.Divisors.{lcm-multiple, lcm-least, lcm-sum, monomial_degree-lcm}
 use Rattle.sf_algebra.proofs.divisibility.monomial_multiples.Goals as goal
 
 pub returns : goal.returns

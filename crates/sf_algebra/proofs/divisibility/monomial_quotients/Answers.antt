@@ -1,4 +1,4 @@
-use Rattle.sf_algebra.proofs.Divisors.{product-quotient, quotient-only, product-cancel}
+use Rattle.sf_algebra.proofs.Monomials.Divisors.{product-quotient, quotient-only, product-cancel}
 use Rattle.sf_algebra.proofs.divisibility.monomial_quotients.Goals as goal
 
 pub returns : goal.returns

@@ -1,9 +1,9 @@
-use Rattle.sf_algebra.proofs.Kronecker.{IsMatrix-kronecker, row_degrees-kronecker}
-use Rattle.sf_algebra.proofs.KroneckerEntries.{entry-kronecker}
-use Rattle.sf_algebra.proofs.KroneckerIdentities.{entry-kronecker_identity, row_at-kronecker_identity_first, kronecker-identity}
-use Rattle.sf_algebra.proofs.KroneckerProducts.{kronecker-matrix_product}
-use Rattle.sf_algebra.proofs.KroneckerSums.{kronecker-negated, kronecker-negated_first, kronecker-one, kronecker-stacked}
-use Rattle.sf_algebra.proofs.KroneckerTransposes.{transposed-kronecker}
+use Rattle.sf_algebra.proofs.Tensors.Kronecker.{IsMatrix-kronecker, row_degrees-kronecker}
+use Rattle.sf_algebra.proofs.Tensors.KroneckerEntries.{entry-kronecker}
+use Rattle.sf_algebra.proofs.Tensors.KroneckerIdentities.{entry-kronecker_identity, row_at-kronecker_identity_first, kronecker-identity}
+use Rattle.sf_algebra.proofs.Tensors.KroneckerProducts.{kronecker-matrix_product}
+use Rattle.sf_algebra.proofs.Tensors.KroneckerSums.{kronecker-negated, kronecker-negated_first, kronecker-one, kronecker-stacked}
+use Rattle.sf_algebra.proofs.Tensors.KroneckerTransposes.{transposed-kronecker}
 use Rattle.sf_algebra.proofs.matrices.kronecker_products.Goals as goal
 
 pub returns : goal.returns

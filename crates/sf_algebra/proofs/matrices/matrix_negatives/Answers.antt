@@ -1,5 +1,5 @@
-use Rattle.sf_algebra.proofs.NegatedMatrices.{IsMatrix-negated, row_degrees-negated, entry-negated, negated-negated, transposed-negated}
-use Rattle.sf_algebra.proofs.ProductLaws.{matrix_product-negated_first, matrix_product-negated}
+use Rattle.sf_algebra.proofs.GradedMatrices.NegatedMatrices.{IsMatrix-negated, row_degrees-negated, entry-negated, negated-negated, transposed-negated}
+use Rattle.sf_algebra.proofs.GradedMatrices.ProductLaws.{matrix_product-negated_first, matrix_product-negated}
 use Rattle.sf_algebra.proofs.matrices.matrix_negatives.Goals as goal
 
 pub returns : goal.returns

@@ -1,5 +1,5 @@
-use Rattle.sf_algebra.proofs.Parts.{IsMatrix-part, row_degrees-part, entry-part, part-whole, part-part, transposed-part}
-use Rattle.sf_algebra.proofs.ProductParts.{part-matrix_product}
+use Rattle.sf_algebra.proofs.GradedMatrices.Parts.{IsMatrix-part, row_degrees-part, entry-part, part-whole, part-part, transposed-part}
+use Rattle.sf_algebra.proofs.GradedMatrices.ProductParts.{part-matrix_product}
 use Rattle.sf_algebra.proofs.matrices.matrix_parts.Goals as goal
 
 pub returns : goal.returns

@@ -1,11 +1,11 @@
 use Rattle.std.proofs.Common.{refl, ap, ◌∙◌}
 use Rattle.sf_algebra.specs.MatrixOperations.{row_at}
 use Rattle.sf_algebra.specs.Vectors.{entry}
-use Rattle.sf_algebra.proofs.EntryProducts.{entry-row_combination_products}
-use Rattle.sf_algebra.proofs.Identities.{IsMatrix-identity, row_degrees-identity}
-use Rattle.sf_algebra.proofs.MatrixProducts.{IsMatrix-matrix_product, row_degrees-matrix_product}
-use Rattle.sf_algebra.proofs.ProductLaws.{matrix_product-identity_first, matrix_product-identity, matrix_product-assoc}
-use Rattle.sf_algebra.proofs.Rows.{row_at-matrix_product}
+use Rattle.sf_algebra.proofs.GradedMatrices.Identities.{IsMatrix-identity, row_degrees-identity}
+use Rattle.sf_algebra.proofs.GradedMatrices.MatrixProducts.{IsMatrix-matrix_product, row_degrees-matrix_product}
+use Rattle.sf_algebra.proofs.GradedMatrices.ProductLaws.{matrix_product-identity_first, matrix_product-identity, matrix_product-assoc}
+use Rattle.sf_algebra.proofs.Vectors.EntryProducts.{entry-row_combination_products}
+use Rattle.sf_algebra.proofs.Vectors.Rows.{row_at-matrix_product}
 use Rattle.sf_algebra.proofs.matrices.matrix_products.Goals as goal
 
 pub returns : goal.returns

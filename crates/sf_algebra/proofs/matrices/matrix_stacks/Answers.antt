@@ -1,6 +1,6 @@
-use Rattle.sf_algebra.proofs.Parts.{part-stacked_first, part-stacked_second, stacked-parts}
-use Rattle.sf_algebra.proofs.ProductLaws.{matrix_product-stacked}
-use Rattle.sf_algebra.proofs.Stacks.{IsMatrix-stacked, negated-stacked, row_degrees-stacked, stacked-assoc}
+use Rattle.sf_algebra.proofs.GradedMatrices.Parts.{part-stacked_first, part-stacked_second, stacked-parts}
+use Rattle.sf_algebra.proofs.GradedMatrices.ProductLaws.{matrix_product-stacked}
+use Rattle.sf_algebra.proofs.GradedMatrices.Stacks.{IsMatrix-stacked, negated-stacked, row_degrees-stacked, stacked-assoc}
 use Rattle.sf_algebra.proofs.matrices.matrix_stacks.Goals as goal
 
 pub returns : goal.returns

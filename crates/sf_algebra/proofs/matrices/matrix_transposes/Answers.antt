@@ -1,5 +1,5 @@
-use Rattle.sf_algebra.proofs.TransposedProducts.{transposed-identity, transposed-matrix_product}
-use Rattle.sf_algebra.proofs.Transposes.{IsMatrix-transposed, row_degrees-transposed, entry-transposed, transposed-transposed}
+use Rattle.sf_algebra.proofs.GradedMatrices.TransposedProducts.{transposed-identity, transposed-matrix_product}
+use Rattle.sf_algebra.proofs.GradedMatrices.Transposes.{IsMatrix-transposed, row_degrees-transposed, entry-transposed, transposed-transposed}
 use Rattle.sf_algebra.proofs.matrices.matrix_transposes.Goals as goal
 
 pub returns : goal.returns

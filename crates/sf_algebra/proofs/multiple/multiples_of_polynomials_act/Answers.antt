@@ -1,8 +1,8 @@
-use Rattle.sf_algebra.proofs.Keys.{monomial_keys}
-use Rattle.sf_algebra.proofs.MultipleLaws.{multiple-one, multiple-multiple, multiple-add, multiple-sum_mod}
-use Rattle.sf_algebra.proofs.Multiples.{IsCanonical-multiple, coefficient_at-multiple}
-use Rattle.sf_algebra.proofs.Negatives.{multiple-negative_one}
-use Rattle.sf_algebra.proofs.PrimeMultiples.{multiple-map}
+use Rattle.sf_algebra.proofs.Multiplying.Keys.{monomial_keys}
+use Rattle.sf_algebra.proofs.Multiplying.MultipleLaws.{multiple-one, multiple-multiple, multiple-add, multiple-sum_mod}
+use Rattle.sf_algebra.proofs.Multiplying.Multiples.{IsCanonical-multiple, coefficient_at-multiple}
+use Rattle.sf_algebra.proofs.Multiplying.PrimeMultiples.{multiple-map}
+use Rattle.sf_algebra.proofs.Terms.Negatives.{multiple-negative_one}
 use Rattle.sf_algebra.proofs.multiple.multiples_of_polynomials_act.Goals as goal
 
 pub returns : goal.returns

@@ -1,4 +1,4 @@
-use Rattle.sf_algebra.proofs.Orders.{monomial_cmp_linear}
+use Rattle.sf_algebra.proofs.Monomials.Orders.{monomial_cmp_linear}
 use Rattle.sf_algebra.proofs.order.monomial_order.Goals as goal
 
 pub returns : goal.returns

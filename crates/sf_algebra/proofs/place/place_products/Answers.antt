@@ -1,4 +1,4 @@
-use Rattle.sf_algebra.proofs.Places.{place_cmp-place_product, place_product-one, place_product-assoc}
+use Rattle.sf_algebra.proofs.Monomials.Places.{place_cmp-place_product, place_product-one, place_product-assoc}
 use Rattle.sf_algebra.proofs.place.place_products.Goals as goal
 
 pub returns : goal.returns

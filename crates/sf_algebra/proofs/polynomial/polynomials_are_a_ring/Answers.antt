@@ -1,11 +1,11 @@
 use Rattle.sf_algebra.specs.Monomials.{monomial_cmp}
-use Rattle.sf_algebra.proofs.GroupLaws.{coefficient_at-add}
-use Rattle.sf_algebra.proofs.Keys.{monomial_keys}
-use Rattle.sf_algebra.proofs.Negatives.{IsCanonical-negative, add-negative}
-use Rattle.sf_algebra.proofs.Normal.{IsCanonical-add}
-use Rattle.sf_algebra.proofs.Orders.{monomial_cmp_linear}
-use Rattle.sf_algebra.proofs.Polynomials.{IsCanonical-polynomial_product, coefficient_at-polynomial_product, polynomial_product-comm, polynomial_product-assoc, polynomial_product-add, polynomial_product-one}
-use Rattle.sf_algebra.proofs.Sums.{add_comm, add_assoc, add-nil}
+use Rattle.sf_algebra.proofs.Monomials.Orders.{monomial_cmp_linear}
+use Rattle.sf_algebra.proofs.Multiplying.Keys.{monomial_keys}
+use Rattle.sf_algebra.proofs.Multiplying.Polynomials.{IsCanonical-polynomial_product, coefficient_at-polynomial_product, polynomial_product-comm, polynomial_product-assoc, polynomial_product-add, polynomial_product-one}
+use Rattle.sf_algebra.proofs.Terms.GroupLaws.{coefficient_at-add}
+use Rattle.sf_algebra.proofs.Terms.Negatives.{IsCanonical-negative, add-negative}
+use Rattle.sf_algebra.proofs.Terms.Normal.{IsCanonical-add}
+use Rattle.sf_algebra.proofs.Terms.Sums.{add_comm, add_assoc, add-nil}
 use Rattle.sf_algebra.proofs.polynomial.polynomials_are_a_ring.Goals as goal
 
 pub returns : goal.returns

@@ -1,4 +1,4 @@
-use Rattle.sf_algebra.proofs.Products.{product-comm, product-assoc, product-one_first, monomial_cmp-product}
+use Rattle.sf_algebra.proofs.Monomials.Products.{product-comm, product-assoc, product-one_first, monomial_cmp-product}
 use Rattle.sf_algebra.proofs.product.monomial_products.Goals as goal
 
 pub returns : goal.returns

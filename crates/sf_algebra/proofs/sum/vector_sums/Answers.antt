@@ -1,8 +1,8 @@
 use Rattle.sf_algebra.specs.Vectors.{place_cmp}
-use Rattle.sf_algebra.proofs.Coefficients.{coefficient_at-normal, same_from_coefficients}
-use Rattle.sf_algebra.proofs.Normal.{IsCanonical-normal}
-use Rattle.sf_algebra.proofs.Orders.{place_cmp_linear}
-use Rattle.sf_algebra.proofs.Sums.{normal-IsPermutation, normal-append}
+use Rattle.sf_algebra.proofs.Monomials.Orders.{place_cmp_linear}
+use Rattle.sf_algebra.proofs.Terms.Coefficients.{coefficient_at-normal, same_from_coefficients}
+use Rattle.sf_algebra.proofs.Terms.Normal.{IsCanonical-normal}
+use Rattle.sf_algebra.proofs.Terms.Sums.{normal-IsPermutation, normal-append}
 use Rattle.sf_algebra.proofs.sum.vector_sums.Goals as goal
 
 pub returns : goal.returns

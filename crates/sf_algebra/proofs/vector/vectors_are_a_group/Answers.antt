@@ -1,10 +1,10 @@
 use Rattle.sf_algebra.specs.Vectors.{place_cmp}
-use Rattle.sf_algebra.proofs.GroupLaws.{coefficient_at-add}
-use Rattle.sf_algebra.proofs.Keys.{place_keys}
-use Rattle.sf_algebra.proofs.Negatives.{IsCanonical-negative, add-negative}
-use Rattle.sf_algebra.proofs.Normal.{IsCanonical-add}
-use Rattle.sf_algebra.proofs.Orders.{place_cmp_linear}
-use Rattle.sf_algebra.proofs.Sums.{add_comm, add_assoc, add-nil}
+use Rattle.sf_algebra.proofs.Monomials.Orders.{place_cmp_linear}
+use Rattle.sf_algebra.proofs.Multiplying.Keys.{place_keys}
+use Rattle.sf_algebra.proofs.Terms.GroupLaws.{coefficient_at-add}
+use Rattle.sf_algebra.proofs.Terms.Negatives.{IsCanonical-negative, add-negative}
+use Rattle.sf_algebra.proofs.Terms.Normal.{IsCanonical-add}
+use Rattle.sf_algebra.proofs.Terms.Sums.{add_comm, add_assoc, add-nil}
 use Rattle.sf_algebra.proofs.vector.vectors_are_a_group.Goals as goal
 
 pub returns : goal.returns

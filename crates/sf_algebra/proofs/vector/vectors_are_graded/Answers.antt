@@ -1,4 +1,4 @@
-use Rattle.sf_algebra.proofs.HomogeneousVectors.{IsVector-add, IsVector-negative, IsVector-multiple, IsVector-row_combination, IsVector-degree_part, row_combination-IsVector}
+use Rattle.sf_algebra.proofs.Vectors.HomogeneousVectors.{IsVector-add, IsVector-negative, IsVector-multiple, IsVector-row_combination, IsVector-degree_part, row_combination-IsVector}
 use Rattle.sf_algebra.proofs.vector.vectors_are_graded.Goals as goal
 
 pub returns : goal.returns

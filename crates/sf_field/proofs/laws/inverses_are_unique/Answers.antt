@@ -1,4 +1,4 @@
-use Rattle.sf_algebra.proofs.Inverses.{inverse_unique}
+use Rattle.sf_algebra.proofs.Arithmetic.Inverses.{inverse_unique}
 use Rattle.sf_field.proofs.laws.inverses_are_unique.Goals as goal
 
 pub returns : goal.returns

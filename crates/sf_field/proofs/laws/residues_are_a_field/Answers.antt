@@ -1,4 +1,4 @@
-use Rattle.sf_algebra.proofs.Inverses.{field_of_residues}
+use Rattle.sf_algebra.proofs.Arithmetic.Inverses.{field_of_residues}
 use Rattle.sf_field.proofs.Moduli.{modulus_prime}
 use Rattle.sf_field.proofs.laws.residues_are_a_field.Goals as goal
 

@@ -1,7 +1,7 @@
 use Rattle.sf_algebra.specs.Matrices.{row_degrees}
 use Rattle.sf_groebner.specs.Spans.{InSpan, IsSyzygy, graph_degrees, IsGraphVector}
-use Rattle.sf_groebner.proofs.Spans.{span_module, syzygy_module, graph_module}
-use Rattle.sf_groebner.proofs.UniqueBases.{unique_reduced}
+use Rattle.sf_groebner.proofs.Spanning.Spans.{span_module, syzygy_module, graph_module}
+use Rattle.sf_groebner.proofs.Uniqueness.UniqueBases.{unique_reduced}
 use Rattle.sf_groebner.proofs.bases.reduced_bases_are_unique.Goals as goal
 
 pub returns : goal.returns

@@ -1,7 +1,7 @@
 use Rattle.sf_groebner.specs.Spans.{InSpan}
-use Rattle.sf_groebner.proofs.ChainMaps.{homology_acts, kernel_acts, image_acts, cokernel_acts}
-use Rattle.sf_groebner.proofs.EqualModulo.{combined-AreEqualModulo}
-use Rattle.sf_groebner.proofs.IdentitySquares.{chain_maps-identity}
+use Rattle.sf_groebner.proofs.MapsOnHomology.ChainMaps.{homology_acts, kernel_acts, image_acts, cokernel_acts}
+use Rattle.sf_groebner.proofs.MapsOnHomology.EqualModulo.{combined-AreEqualModulo}
+use Rattle.sf_groebner.proofs.MapsOnHomology.IdentitySquares.{chain_maps-identity}
 use Rattle.sf_groebner.proofs.chain_map.homology_of_maps.Goals as goal
 
 pub returns : goal.returns

@@ -1,8 +1,8 @@
 use Rattle.std.proofs.Common.{ℕ, ◌<◌, arith}
-use Rattle.sf_groebner.proofs.BoundedCriterion.{buchberger_up_to}
-use Rattle.sf_groebner.proofs.Buchberger.{ReducesToZero-chain, ReducesToZero-sym, buchberger}
-use Rattle.sf_groebner.proofs.Representations.{ReducesToZero-complete}
-use Rattle.sf_groebner.proofs.SVectors.{s_vector-below}
+use Rattle.sf_groebner.proofs.PairTheorems.BoundedCriterion.{buchberger_up_to}
+use Rattle.sf_groebner.proofs.PairTheorems.Buchberger.{ReducesToZero-chain, ReducesToZero-sym, buchberger}
+use Rattle.sf_groebner.proofs.PairTheorems.Representations.{ReducesToZero-complete}
+use Rattle.sf_groebner.proofs.PairTheorems.SVectors.{s_vector-below}
 use Rattle.sf_groebner.proofs.criterion.pairs_decide_bases.Goals as goal
 
 before : (i j n : ℕ) → i < j → j < n → i < n

@@ -1,6 +1,6 @@
 use Rattle.std.proofs.Common.{ℕ, ◌<◌, arith}
-use Rattle.sf_groebner.proofs.PairSyzygies.{ReducesToZero-IsPairSyzygy, homogeneous_syzygy}
-use Rattle.sf_groebner.proofs.SyzygySpans.{schreyer_homogeneous}
+use Rattle.sf_groebner.proofs.PairTheorems.PairSyzygies.{ReducesToZero-IsPairSyzygy, homogeneous_syzygy}
+use Rattle.sf_groebner.proofs.PairTheorems.SyzygySpans.{schreyer_homogeneous}
 use Rattle.sf_groebner.proofs.criterion.pairs_give_syzygies.Goals as goal
 
 before : (i j n : ℕ) → i < j → j < n → i < n

@@ -1,5 +1,5 @@
-use Rattle.sf_groebner.proofs.KoszulCokernel.{koszul-cokernel, refuses_no_cokernel}
-use Rattle.sf_groebner.proofs.KoszulHomology.{koszul-homology, koszul-kernel}
+use Rattle.sf_groebner.proofs.WorkedExamples.KoszulCokernel.{koszul-cokernel, refuses_no_cokernel}
+use Rattle.sf_groebner.proofs.WorkedExamples.KoszulHomology.{koszul-homology, koszul-kernel}
 use Rattle.sf_groebner.proofs.examples.koszul_homology.Goals as goal
 
 pub returns : goal.returns

@@ -1,4 +1,4 @@
-use Rattle.sf_groebner.proofs.RefusedLists.{refuses_later_lead_in_tail, refuses_earlier_lead_in_tail, refuses_outside_rows, refuses_doubled_row, refuses_zero, refuses_without_third_row, refuses_smaller_lead_first, refuses_greater_degree_first}
+use Rattle.sf_groebner.proofs.WorkedExamples.RefusedLists.{refuses_later_lead_in_tail, refuses_earlier_lead_in_tail, refuses_outside_rows, refuses_doubled_row, refuses_zero, refuses_without_third_row, refuses_smaller_lead_first, refuses_greater_degree_first}
 use Rattle.sf_groebner.proofs.examples.refused_bases.Goals as goal
 
 pub returns : goal.returns

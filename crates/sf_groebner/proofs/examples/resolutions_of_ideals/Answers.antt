@@ -1,5 +1,5 @@
-use Rattle.sf_groebner.proofs.KoszulSteps.{koszul-resolution, refuses_one_variable}
-use Rattle.sf_groebner.proofs.QuadricsSteps.{quadrics-resolution, refuses_third_row}
+use Rattle.sf_groebner.proofs.WorkedExamples.KoszulSteps.{koszul-resolution, refuses_one_variable}
+use Rattle.sf_groebner.proofs.WorkedExamples.QuadricsSteps.{quadrics-resolution, refuses_third_row}
 use Rattle.sf_groebner.proofs.examples.resolutions_of_ideals.Goals as goal
 
 pub returns : goal.returns

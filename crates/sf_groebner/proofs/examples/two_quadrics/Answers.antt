@@ -1,5 +1,5 @@
-use Rattle.sf_groebner.proofs.QuadricsGraph.{quadrics-matrix, quadrics-reduced_graph}
-use Rattle.sf_groebner.proofs.QuadricsParts.{quadrics-span, quadrics-syzygies, third_row-lift, quadrics-small, quadrics-large, refuses_other_coefficients, refuses_unit_as_syzygy}
+use Rattle.sf_groebner.proofs.WorkedExamples.QuadricsGraph.{quadrics-matrix, quadrics-reduced_graph}
+use Rattle.sf_groebner.proofs.WorkedExamples.QuadricsParts.{quadrics-span, quadrics-syzygies, third_row-lift, quadrics-small, quadrics-large, refuses_other_coefficients, refuses_unit_as_syzygy}
 use Rattle.sf_groebner.proofs.examples.two_quadrics.Goals as goal
 
 pub returns : goal.returns

@@ -1,4 +1,4 @@
-use Rattle.sf_groebner.proofs.MatrixBases.{answer_exists, answer_unique}
+use Rattle.sf_groebner.proofs.Constructions.MatrixBases.{answer_exists, answer_unique}
 use Rattle.sf_groebner.proofs.existence.each_matrix_has_one_answer.Goals as goal
 
 pub returns : goal.returns

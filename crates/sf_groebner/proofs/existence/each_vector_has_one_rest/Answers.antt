@@ -1,4 +1,4 @@
-use Rattle.sf_groebner.proofs.Rests.{division_exists, reduced_vector_exists, rest_unique, rest_none}
+use Rattle.sf_groebner.proofs.Constructions.Rests.{division_exists, reduced_vector_exists, rest_unique, rest_none}
 use Rattle.sf_groebner.proofs.existence.each_vector_has_one_rest.Goals as goal
 
 pub returns : goal.returns

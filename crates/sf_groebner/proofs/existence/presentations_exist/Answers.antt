@@ -1,5 +1,5 @@
-use Rattle.sf_groebner.proofs.PresentationExistence.{homology_exists, kernel_exists, image_exists, cokernel_exists}
-use Rattle.sf_groebner.proofs.ResolutionExistence.{resolution_exists}
+use Rattle.sf_groebner.proofs.Constructions.PresentationExistence.{homology_exists, kernel_exists, image_exists, cokernel_exists}
+use Rattle.sf_groebner.proofs.Constructions.ResolutionExistence.{resolution_exists}
 use Rattle.sf_groebner.proofs.existence.presentations_exist.Goals as goal
 
 pub returns : goal.returns

@@ -1,5 +1,5 @@
-use Rattle.sf_groebner.proofs.GraphLifts.{graph_lifts}
-use Rattle.sf_groebner.proofs.GraphParts.{reduced-span, reduced-syzygies}
+use Rattle.sf_groebner.proofs.PartsOfBases.GraphLifts.{graph_lifts}
+use Rattle.sf_groebner.proofs.PartsOfBases.GraphParts.{reduced-span, reduced-syzygies}
 use Rattle.sf_groebner.proofs.graph.graph_parts.Goals as goal
 
 pub returns : goal.returns

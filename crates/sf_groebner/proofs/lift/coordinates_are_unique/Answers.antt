@@ -1,4 +1,4 @@
-use Rattle.sf_groebner.proofs.ReducedCoordinates.{InSpan-relations, IsRelation-span, reduced_coordinates, unique_reduced_vector}
+use Rattle.sf_groebner.proofs.Uniqueness.ReducedCoordinates.{InSpan-relations, IsRelation-span, reduced_coordinates, unique_reduced_vector}
 use Rattle.sf_groebner.proofs.lift.coordinates_are_unique.Goals as goal
 
 pub returns : goal.returns

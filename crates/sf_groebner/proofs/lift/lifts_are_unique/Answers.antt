@@ -1,4 +1,4 @@
-use Rattle.sf_groebner.proofs.Lifts.{unique_lift, reduced-coordinates}
+use Rattle.sf_groebner.proofs.Uniqueness.Lifts.{unique_lift, reduced-coordinates}
 use Rattle.sf_groebner.proofs.lift.lifts_are_unique.Goals as goal
 
 pub returns : goal.returns

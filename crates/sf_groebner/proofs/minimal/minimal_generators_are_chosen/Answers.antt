@@ -1,8 +1,8 @@
 use Rattle.std.proofs.Common.{[]}
 use Rattle.sf_groebner.specs.Presentations.{IsZero}
 use Rattle.sf_groebner.specs.Spans.{InSpan}
-use Rattle.sf_groebner.proofs.KeptGenerators.{AreKept-chosen}
-use Rattle.sf_groebner.proofs.SumsAndMultiples.{span_closed, zero_closed}
+use Rattle.sf_groebner.proofs.Spanning.SumsAndMultiples.{span_closed, zero_closed}
+use Rattle.sf_groebner.proofs.Uniqueness.KeptGenerators.{AreKept-chosen}
 use Rattle.sf_groebner.proofs.minimal.minimal_generators_are_chosen.Goals as goal
 
 pub returns : goal.returns

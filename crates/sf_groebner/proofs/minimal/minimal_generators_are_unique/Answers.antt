@@ -1,13 +1,13 @@
 use Rattle.std.proofs.Common.{◌<◌, sym, arith}
 use Rattle.sf_algebra.specs.Matrices.{row_degrees}
 use Rattle.sf_algebra.specs.Rings.{IsRing}
+use Rattle.sf_algebra.proofs.Monomials.Weights.{field_ring}
 use Rattle.sf_groebner.specs.Presentations.{IsZero, IsRelation}
 use Rattle.sf_groebner.specs.Spans.{InSpan}
-use Rattle.sf_algebra.proofs.Weights.{field_ring}
-use Rattle.sf_groebner.proofs.GeneratingBases.{AreMinimal-generate}
-use Rattle.sf_groebner.proofs.Homology.{one_span_basis, one_cycle_basis}
-use Rattle.sf_groebner.proofs.MinimalGenerators.{unique_minimal}
-use Rattle.sf_groebner.proofs.SpanCombinations.{span_submodule, span_submodule_of}
+use Rattle.sf_groebner.proofs.Spanning.SpanCombinations.{span_submodule, span_submodule_of}
+use Rattle.sf_groebner.proofs.Uniqueness.GeneratingBases.{AreMinimal-generate}
+use Rattle.sf_groebner.proofs.Uniqueness.Homology.{one_span_basis, one_cycle_basis}
+use Rattle.sf_groebner.proofs.Uniqueness.MinimalGenerators.{unique_minimal}
 use Rattle.sf_groebner.proofs.minimal.minimal_generators_are_unique.Goals as goal
 
 pub returns : goal.returns

@@ -4,7 +4,7 @@ use Rattle.sf_algebra.specs.MatrixOperations.{stacked}
 use Rattle.sf_algebra.specs.Vectors.{IsVector}
 use Rattle.sf_groebner.specs.Homology.{IsCycle}
 use Rattle.sf_groebner.specs.Spans.{InSpan}
-use Rattle.sf_groebner.proofs.PresentedModules.{IsMatrix-generators, IsMatrix-relations, IsMatrix-resolution}
+use Rattle.sf_groebner.proofs.Uniqueness.PresentedModules.{IsMatrix-generators, IsMatrix-relations, IsMatrix-resolution}
 use Rattle.sf_groebner.proofs.presentation.presentations_are_matrices.Goals as goal
 
 pub returns : goal.returns

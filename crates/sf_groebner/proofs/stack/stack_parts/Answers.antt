@@ -1,10 +1,10 @@
+use Rattle.std.proofs.Common.{length}
 use Rattle.sf_algebra.specs.Matrices.{row_degrees}
 use Rattle.sf_algebra.specs.MatrixOperations.{stacked}
 use Rattle.sf_groebner.specs.Spans.{IsSyzygy}
-use Rattle.sf_groebner.proofs.FirstParts.{reduced-first_parts}
-use Rattle.sf_groebner.proofs.Relations.{IsRelation-blocks}
+use Rattle.sf_groebner.proofs.PartsOfBases.FirstParts.{reduced-first_parts}
+use Rattle.sf_groebner.proofs.PartsOfBases.Relations.{IsRelation-blocks}
 use Rattle.sf_groebner.proofs.stack.stack_parts.Goals as goal
-use Rattle.std.proofs.Common.{length}
 
 pub returns : goal.returns
 returns c = record {

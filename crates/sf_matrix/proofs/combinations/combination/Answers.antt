@@ -2,8 +2,8 @@ use Rattle.std.proofs.Common.{◌≡◌, ◌++◌, rules, map, sym, ap, subst, �
 use Rattle.sf_algebra.specs.Multiples.{place_product, term_product}
 use Rattle.sf_algebra.specs.Rings.{ones}
 use Rattle.sf_algebra.specs.Vectors.{place_cmp}
-use Rattle.sf_algebra.proofs.Gathering.{combination_terms-nil, combination_terms-take, combination-gathered, read_row}
-use Rattle.sf_algebra.proofs.Lists.{AllByRecursion-get}
+use Rattle.sf_algebra.proofs.Basics.Lists.{AllByRecursion-get}
+use Rattle.sf_algebra.proofs.Multiplying.Gathering.{combination_terms-nil, combination_terms-take, combination-gathered, read_row}
 use Rattle.sf_matrix.specs.Bounds.{HasRoom}
 use Rattle.sf_matrix.specs.Places.{factor_of}
 use Rattle.sf_matrix.proofs.combinations.combination.Goals as goal

@@ -4,10 +4,10 @@ use Rattle.sf_algebra.specs.Rings.{ones}
 use Rattle.sf_algebra.specs.Sums.{put, normal, add}
 use Rattle.sf_algebra.specs.Terms.{IsCanonical}
 use Rattle.sf_algebra.specs.Vectors.{place_cmp}
-use Rattle.sf_algebra.proofs.Normal.{IsCanonical-normal}
-use Rattle.sf_algebra.proofs.Orders.{place_cmp_linear}
-use Rattle.sf_algebra.proofs.Slices.{only_item}
-use Rattle.sf_algebra.proofs.Sums.{normal-canonical, normal-nil, normal-one, normal-halves}
+use Rattle.sf_algebra.proofs.Basics.Slices.{only_item}
+use Rattle.sf_algebra.proofs.Monomials.Orders.{place_cmp_linear}
+use Rattle.sf_algebra.proofs.Terms.Normal.{IsCanonical-normal}
+use Rattle.sf_algebra.proofs.Terms.Sums.{normal-canonical, normal-nil, normal-one, normal-halves}
 use Rattle.sf_matrix.proofs.sums.+sum_of_terms.Goals as goal
 
 pub returns-then-are_canonical-clause-sum : goal.returns-then-are_canonical-clause-sum

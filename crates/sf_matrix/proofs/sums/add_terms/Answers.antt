@@ -2,11 +2,11 @@ use Rattle.std.proofs.Common.{◌≡◌, ◌⊎◌, ◌<◌, ◌++◌, sym, ◌�
 use Rattle.sf_algebra.specs.Residues.{sum_mod}
 use Rattle.sf_algebra.specs.Rings.{ones}
 use Rattle.sf_algebra.specs.Vectors.{place_cmp}
-use Rattle.sf_algebra.proofs.Merge.{IsMerging-Greater, IsMerging-Less, IsMerging-Equal, IsMerging-end, canonical_sum}
-use Rattle.sf_algebra.proofs.Orders.{place_cmp_linear}
-use Rattle.sf_algebra.proofs.Slices.{first_and_rest}
-use Rattle.sf_matrix.proofs.sums.add_terms.Goals as goal
+use Rattle.sf_algebra.proofs.Basics.Slices.{first_and_rest}
+use Rattle.sf_algebra.proofs.Monomials.Orders.{place_cmp_linear}
+use Rattle.sf_algebra.proofs.Terms.Merge.{IsMerging-Greater, IsMerging-Less, IsMerging-Equal, IsMerging-end, canonical_sum}
 use Rattle.sf_matrix.proofs.sums.add_terms.Goals.{in_default, in_default-2}
+use Rattle.sf_matrix.proofs.sums.add_terms.Goals as goal
 
 pub loop-left-preserved-in_ok-push-in-Greater : goal.loop-left-preserved-in_ok-push-in-Greater
 loop-left-preserved-in_ok-push-in-Greater c =

@@ -1,9 +1,9 @@
 use Rattle.std.proofs.Common.{rules}
 use Rattle.sf_algebra.specs.Rings.{ones}
 use Rattle.sf_algebra.specs.Vectors.{place_cmp}
-use Rattle.sf_algebra.proofs.Canonical.{IsTesting-next}
-use Rattle.sf_algebra.proofs.Orders.{place_cmp_linear}
-use Rattle.sf_algebra.proofs.Slices.{first_and_rest}
+use Rattle.sf_algebra.proofs.Basics.Slices.{first_and_rest}
+use Rattle.sf_algebra.proofs.Monomials.Orders.{place_cmp_linear}
+use Rattle.sf_algebra.proofs.Terms.Canonical.{IsTesting-next}
 use Rattle.sf_matrix.proofs.sums.are_canonical.Goals as goal
 
 pub loop-rest-preserved : goal.loop-rest-preserved

@@ -4,8 +4,8 @@ use Rattle.sf_algebra.specs.Monomials.{monomial_cmp}
 use Rattle.sf_algebra.specs.Polynomials.{polynomial_product}
 use Rattle.sf_algebra.specs.Rings.{plain, ones}
 use Rattle.sf_algebra.specs.Sums.{add}
-use Rattle.sf_algebra.proofs.Polynomials.{polynomial_product-nil, polynomial_product-one_term}
-use Rattle.sf_algebra.proofs.Slices.{only_item}
+use Rattle.sf_algebra.proofs.Basics.Slices.{only_item}
+use Rattle.sf_algebra.proofs.Multiplying.Polynomials.{polynomial_product-nil, polynomial_product-one_term}
 use Rattle.sf_poly.proofs.PartProducts.{positive_from_residues, polynomial_product-halves}
 use Rattle.sf_poly.proofs.products.+product_of_terms.Goals as goal
 

@@ -1,8 +1,8 @@
 use Rattle.std.proofs.Common.{◌+◌, length}
+use Rattle.sf_algebra.specs.Monomials.{monomial_cmp}
 use Rattle.sf_algebra.specs.Rings.{ones}
 use Rattle.sf_algebra.specs.Sums.{add}
-use Rattle.sf_algebra.specs.Monomials.{monomial_cmp}
-use Rattle.sf_algebra.proofs.Merge.{IsMerging}
+use Rattle.sf_algebra.proofs.Terms.Merge.{IsMerging}
 use Rattle.sf_poly.proofs.sums.add_terms.Given as goal
 
 abbrev pub invariant-loop-left : goal.invariant-loop-left

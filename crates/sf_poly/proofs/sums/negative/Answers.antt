@@ -4,7 +4,7 @@ use Rattle.sf_algebra.specs.Monomials.{monomial_cmp}
 use Rattle.sf_algebra.specs.Multiples.{negative_term}
 use Rattle.sf_algebra.specs.Rings.{ones}
 use Rattle.sf_algebra.specs.Terms.{IsCanonical}
-use Rattle.sf_algebra.proofs.Negatives.{IsCanonical-negative}
+use Rattle.sf_algebra.proofs.Terms.Negatives.{IsCanonical-negative}
 use Rattle.sf_poly.proofs.sums.negative.Goals as goal
 
 pub returns-clause-canonical : goal.returns-clause-canonical

@@ -2,8 +2,8 @@ use Rattle.std.proofs.Common.{◌≡◌, IfSome}
 use Rattle.std.specs.List.{AllByRecursion}
 use Rattle.std.proofs.lemmas.Result.{IfOk-weaker}
 use Rattle.sf_algebra.specs.Printing.{star}
-use Rattle.sf_session.specs.Words.{parts}
 use Rattle.sf_session.specs.MatrixText.{all_of, factor_of}
+use Rattle.sf_session.specs.Words.{parts}
 use Rattle.sf_session.proofs.SmallTerms.{all_of-small, IsSmallFactor}
 use Rattle.sf_session.proofs.matrix_text.factors_of.Goals as goal
 

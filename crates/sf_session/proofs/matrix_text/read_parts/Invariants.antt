@@ -1,7 +1,7 @@
 use Rattle.std.proofs.Common.{◌≡◌, ◌+◌, ◌++◌, length, option_copied}
 use Rattle.std.specs.Option.{option_map, option_map_or}
-use Rattle.sf_session.specs.Words.{parts, parts_left}
 use Rattle.sf_session.specs.MatrixText.{all_of}
+use Rattle.sf_session.specs.Words.{parts, parts_left}
 use Rattle.sf_session.proofs.matrix_text.read_parts.Given as goal
 
 abbrev pub invariant-loop-left : goal.invariant-loop-left

@@ -1,9 +1,9 @@
 use Rattle.std.proofs.Common.{◌≡◌, ◌++◌, length, IsTrue}
 use Rattle.std.specs.List.{list_all}
 use Rattle.std.specs.Option.{option_map}
-use Rattle.sf_session.specs.Words.{words}
 use Rattle.sf_session.specs.Grammar.{degrees_and_rest}
 use Rattle.sf_session.specs.Placed.{is_written_degree}
+use Rattle.sf_session.specs.Words.{words}
 use Rattle.sf_session.proofs.reading.read_degrees.Given as goal
 
 abbrev pub invariant-loop-word : goal.invariant-loop-word

@@ -1,9 +1,9 @@
 use Rattle.std.proofs.Common.{rules, ◌≡◌, true, false, Some, None, length, sym, ap, ◌∙◌, Ok, Err}
 use Rattle.std.specs.Prelude.{is_some}
 use Rattle.std.specs.List.{list_all}
-use Rattle.sf_session.specs.State.{ring_of, module_named, is_degree}
 use Rattle.sf_session.specs.Placed.{has_shape, relations_of, first_fault}
 use Rattle.sf_session.specs.Refusals.{first_unknown}
+use Rattle.sf_session.specs.State.{ring_of, module_named, is_degree}
 use Rattle.sf_session.specs.declared.refusal.Refusal.TheVariants.{Unknown, Taken}
 use Rattle.sf_session.proofs.Definitions.{definition-unknown, definition-taken, definition-shape, definition-degree, definition-range, definition-ok}
 use Rattle.sf_session.proofs.session.relations_of.Goals as goal

@@ -1,5 +1,5 @@
 use Rattle.std.proofs.Common.{◌∙◌, arith}
-use Rattle.sf_algebra.proofs.Inverses.{inverse_nonzero, reaches_itself, reaches_remainder}
+use Rattle.sf_algebra.proofs.Arithmetic.Inverses.{inverse_nonzero, reaches_itself, reaches_remainder}
 use Rattle.sf_field.proofs.modulus.Modulus.inv.Goals as goal
 
 pub loop-rest-init : goal.loop-rest-init

@@ -1,4 +1,4 @@
-use Rattle.sf_algebra.proofs.Inverses.{Reaches}
+use Rattle.sf_algebra.proofs.Arithmetic.Inverses.{Reaches}
 use Rattle.sf_field.proofs.modulus.Modulus.inv.Given as goal
 
 abbrev pub invariant-loop-rest : goal.invariant-loop-rest

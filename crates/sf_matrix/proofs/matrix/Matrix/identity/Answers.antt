@@ -2,7 +2,7 @@ use Rattle.std.proofs.Common.{◌++◌, sym, ap, ◌∙◌, refl, append-nil}
 use Rattle.std.proofs.lemmas.List.{drop_all}
 use Rattle.sf_algebra.specs.MatrixOperations.{unit_rows, identity}
 use Rattle.sf_algebra.specs.Rings.{plain}
-use Rattle.sf_algebra.proofs.Identities.{IsMatrix-identity}
+use Rattle.sf_algebra.proofs.GradedMatrices.Identities.{IsMatrix-identity}
 use Rattle.sf_matrix.proofs.Assembled.{IsMatrix-assembled}
 use Rattle.sf_matrix.proofs.matrix.Matrix.identity.Goals as goal
 

@@ -6,8 +6,8 @@ use Rattle.sf_algebra.specs.Matrices.{IsMatrix}
 use Rattle.sf_algebra.specs.MatrixOperations.{kronecker, degree_sums}
 use Rattle.sf_algebra.specs.Rings.{plain}
 use Rattle.sf_algebra.specs.Vectors.{Vector, IsVector}
-use Rattle.sf_algebra.proofs.Kronecker.{IsMatrix-kronecker}
-use Rattle.sf_algebra.proofs.Lists.{AllByRecursion-get, AllByRecursion-weaken}
+use Rattle.sf_algebra.proofs.Basics.Lists.{AllByRecursion-get, AllByRecursion-weaken}
+use Rattle.sf_algebra.proofs.Tensors.Kronecker.{IsMatrix-kronecker}
 use Rattle.sf_matrix.specs.Bounds.{IsDegree, TermsFit, PositionsFit}
 use Rattle.sf_matrix.specs.Places.{kronecker_vector}
 use Rattle.sf_matrix.proofs.Assembled.{IsMatrix-assembled}

@@ -3,7 +3,7 @@ use Rattle.sf_algebra.specs.Matrices.{IsMatrix}
 use Rattle.sf_algebra.specs.MatrixOperations.{negated}
 use Rattle.sf_algebra.specs.Multiples.{negative}
 use Rattle.sf_algebra.specs.Vectors.{Vector}
-use Rattle.sf_algebra.proofs.NegatedMatrices.{IsMatrix-negated}
+use Rattle.sf_algebra.proofs.GradedMatrices.NegatedMatrices.{IsMatrix-negated}
 use Rattle.sf_matrix.proofs.Assembled.{IsMatrix-assembled, mapped_all}
 use Rattle.sf_matrix.proofs.matrix.Matrix.negate.Goals as goal
 

@@ -1,7 +1,7 @@
 use Rattle.std.proofs.Common.{ap, subst, map, slice_range, ◌∙◌}
 use Rattle.sf_algebra.specs.Matrices.{IsMatrix}
 use Rattle.sf_algebra.specs.MatrixOperations.{part, vector_part}
-use Rattle.sf_algebra.proofs.Parts.{IsMatrix-part}
+use Rattle.sf_algebra.proofs.GradedMatrices.Parts.{IsMatrix-part}
 use Rattle.sf_matrix.proofs.Assembled.{IsMatrix-assembled}
 use Rattle.sf_matrix.proofs.matrix.Matrix.part.Goals as goal
 

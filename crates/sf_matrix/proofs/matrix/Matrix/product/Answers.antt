@@ -6,10 +6,10 @@ use Rattle.sf_algebra.specs.MatrixOperations.{row_at, row_combination, matrix_pr
 use Rattle.sf_algebra.specs.Rings.{Ring, IsPositive}
 use Rattle.sf_algebra.specs.Terms.{IsNonzeroResidue}
 use Rattle.sf_algebra.specs.Vectors.{Vector, IsVector}
-use Rattle.sf_algebra.proofs.Lists.{AllByRecursion-get}
-use Rattle.sf_algebra.proofs.MatrixProducts.{IsMatrix-matrix_product}
+use Rattle.sf_algebra.proofs.Basics.Lists.{AllByRecursion-get}
+use Rattle.sf_algebra.proofs.GradedMatrices.MatrixProducts.{IsMatrix-matrix_product}
+use Rattle.sf_algebra.proofs.Monomials.Weights.{ones_positive}
 use Rattle.sf_matrix.specs.Bounds.{CombinationFits, DegreeFits}
-use Rattle.sf_algebra.proofs.Weights.{ones_positive}
 use Rattle.sf_matrix.proofs.Assembled.{IsMatrix-assembled, mapped_all}
 use Rattle.sf_matrix.proofs.Pieces.{map-take}
 use Rattle.sf_matrix.proofs.Room.{CombinationFits-matrices, residues-rows}

@@ -5,7 +5,7 @@ use Rattle.sf_algebra.specs.MatrixOperations.{transposed}
 use Rattle.sf_algebra.specs.Rings.{plain, ones}
 use Rattle.sf_algebra.specs.Terms.{IsDescending, Term}
 use Rattle.sf_algebra.specs.Vectors.{place_cmp, Place, Vector}
-use Rattle.sf_algebra.proofs.Transposes.{IsMatrix-transposed}
+use Rattle.sf_algebra.proofs.GradedMatrices.Transposes.{IsMatrix-transposed}
 use Rattle.sf_matrix.specs.Columns.{column_lists, vectors_of}
 use Rattle.sf_matrix.proofs.ColumnVectors.{transposed-parts, IsDescending-column_lists, nonzero-column_lists}
 use Rattle.sf_matrix.proofs.Entering.{length-column_lists}

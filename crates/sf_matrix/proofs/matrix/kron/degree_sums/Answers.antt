@@ -1,7 +1,7 @@
 use Rattle.std.proofs.Common.{◌≡◌, ◌++◌, ◌+ℤ◌, pos, get_or, map, rules, sym, subst, ◌∙◌, to_z, of_z, w32}
 use Rattle.std.specs.List.{AllByRecursion}
 use Rattle.std.proofs.lemmas.Option.{slice_get-get_or}
-use Rattle.sf_algebra.proofs.Lists.{AllByRecursion-get}
+use Rattle.sf_algebra.proofs.Basics.Lists.{AllByRecursion-get}
 use Rattle.sf_matrix.specs.Bounds.{IsDegree}
 use Rattle.sf_matrix.proofs.Pieces.{flat_map-take}
 use Rattle.sf_matrix.proofs.matrix.kron.degree_sums.Goals as goal

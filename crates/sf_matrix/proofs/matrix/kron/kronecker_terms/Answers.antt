@@ -6,8 +6,8 @@ use Rattle.sf_algebra.specs.Multiples.{place_product, term_product}
 use Rattle.sf_algebra.specs.Rings.{ones}
 use Rattle.sf_algebra.specs.Terms.{Term}
 use Rattle.sf_algebra.specs.Vectors.{Place, place_cmp}
-use Rattle.sf_algebra.proofs.Gathering.{combination_terms-nil, combination_terms-take, combination-gathered}
-use Rattle.sf_algebra.proofs.Lists.{AllByRecursion-get}
+use Rattle.sf_algebra.proofs.Basics.Lists.{AllByRecursion-get}
+use Rattle.sf_algebra.proofs.Multiplying.Gathering.{combination_terms-nil, combination_terms-take, combination-gathered}
 use Rattle.sf_matrix.specs.Places.{factor_of}
 use Rattle.sf_matrix.proofs.matrix.kron.kronecker_terms.Goals as goal
 

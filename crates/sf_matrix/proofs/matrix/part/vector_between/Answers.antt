@@ -1,10 +1,10 @@
 use Rattle.std.proofs.Common.{◌<◌, sym, ap, subst, ◌∙◌}
 use Rattle.std.specs.List.{AllByRecursion}
+use Rattle.sf_algebra.specs.MatrixOperations.{part_terms}
 use Rattle.sf_algebra.specs.Rings.{ones}
 use Rattle.sf_algebra.specs.Terms.{Term, IsDescending}
 use Rattle.sf_algebra.specs.Vectors.{Place, place_cmp}
-use Rattle.sf_algebra.proofs.PartTerms.{AllByRecursion-part_terms, IsDescending-part_terms}
-use Rattle.sf_algebra.specs.MatrixOperations.{part_terms}
+use Rattle.sf_algebra.proofs.GradedMatrices.PartTerms.{AllByRecursion-part_terms, IsDescending-part_terms}
 use Rattle.sf_matrix.proofs.matrix.part.vector_between.Goals as goal
 
 pub invariant_of-result : goal.invariant_of-result

@@ -3,7 +3,7 @@ use Rattle.std.specs.List.{AllByRecursion}
 use Rattle.std.proofs.lemmas.Option.{slice_get_read}
 use Rattle.sf_algebra.specs.Terms.{Term}
 use Rattle.sf_algebra.specs.Vectors.{Place, Vector}
-use Rattle.sf_algebra.proofs.Lists.{AllByRecursion-get}
+use Rattle.sf_algebra.proofs.Basics.Lists.{AllByRecursion-get}
 use Rattle.sf_matrix.specs.Columns.{entered}
 use Rattle.sf_matrix.proofs.Entering.{column_lists-take, length-column_lists}
 use Rattle.sf_matrix.proofs.matrix.transpose.columns_of.Goals as goal

@@ -1,6 +1,6 @@
 use Rattle.std.proofs.Common.{◌≡◌, ◌<◌, ◌+◌, refl, sym, ap, ◌∙◌, length, rules, arith, get_or, slice_set, ◌++◌, ◌∷◌, []}
 use Rattle.std.proofs.lemmas.Option.{slice_get_read}
-use Rattle.sf_algebra.proofs.Lists.{AllByRecursion-get, take-slice_get}
+use Rattle.sf_algebra.proofs.Basics.Lists.{AllByRecursion-get, take-slice_get}
 use Rattle.sf_matrix.specs.Columns.{entered}
 use Rattle.sf_matrix.proofs.Entering.{entered-nil, entered-push, length-entered, in_row}
 use Rattle.sf_matrix.proofs.matrix.transpose.enter_row.Goals as goal

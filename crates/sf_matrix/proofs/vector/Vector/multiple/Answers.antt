@@ -4,7 +4,7 @@ use Rattle.sf_algebra.specs.Multiples.{place_product, term_product}
 use Rattle.sf_algebra.specs.Rings.{ones}
 use Rattle.sf_algebra.specs.Terms.{Term}
 use Rattle.sf_algebra.specs.Vectors.{place_cmp}
-use Rattle.sf_algebra.proofs.Gathering.{multiple-gathered}
+use Rattle.sf_algebra.proofs.Multiplying.Gathering.{multiple-gathered}
 use Rattle.sf_matrix.proofs.vector.Vector.multiple.Goals as goal
 
 pub returns-clause-multiple : goal.returns-clause-multiple

@@ -1,8 +1,8 @@
 use Rattle.std.proofs.Common.{subst, sym}
 use Rattle.sf_algebra.specs.Rings.{ones}
 use Rattle.sf_algebra.specs.Vectors.{place_cmp}
-use Rattle.sf_algebra.proofs.Lists.{AllByRecursion-append}
-use Rattle.sf_algebra.proofs.Descending.{IsBelowEach, IsDescending-push}
+use Rattle.sf_algebra.proofs.Basics.Descending.{IsBelowEach, IsDescending-push}
+use Rattle.sf_algebra.proofs.Basics.Lists.{AllByRecursion-append}
 use Rattle.sf_matrix.specs.Places.{place_of}
 use Rattle.sf_matrix.proofs.vector.Vector.push.Goals as goal
 

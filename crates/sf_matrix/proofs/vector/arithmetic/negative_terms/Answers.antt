@@ -3,7 +3,7 @@ use Rattle.sf_algebra.specs.Multiples.{negative_term}
 use Rattle.sf_algebra.specs.Rings.{ones}
 use Rattle.sf_algebra.specs.Terms.{IsCanonical}
 use Rattle.sf_algebra.specs.Vectors.{place_cmp}
-use Rattle.sf_algebra.proofs.Negatives.{IsCanonical-negative}
+use Rattle.sf_algebra.proofs.Terms.Negatives.{IsCanonical-negative}
 use Rattle.sf_matrix.proofs.Assembled.{mapped_all}
 use Rattle.sf_matrix.proofs.vector.arithmetic.negative_terms.Goals as goal
 

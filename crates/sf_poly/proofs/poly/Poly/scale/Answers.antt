@@ -1,7 +1,7 @@
 use Rattle.std.proofs.Common.{◌<◌, sym, ◌∙◌, ap, arith}
 use Rattle.sf_algebra.specs.Polynomials.{polynomial_multiple}
-use Rattle.sf_algebra.proofs.Keys.{monomial_keys}
-use Rattle.sf_algebra.proofs.MultipleLaws.{multiple-zero}
+use Rattle.sf_algebra.proofs.Multiplying.Keys.{monomial_keys}
+use Rattle.sf_algebra.proofs.Multiplying.MultipleLaws.{multiple-zero}
 use Rattle.sf_poly.specs.Bounds.{MultipleFits}
 use Rattle.sf_poly.specs.Polynomials.{term_of}
 use Rattle.sf_poly.proofs.Leads.{HasRoom-MultipleFits}

@@ -2,9 +2,9 @@ use Rattle.std.proofs.Common.{◌≡◌, ◌++◌, ap, ◌∙◌, rules, ltb}
 use Rattle.std.specs.Option.{option_map}
 use Rattle.std.specs.Fmt.{signed_decimal}
 use Rattle.std.proofs.lemmas.Option.{slice_get-map}
-use Rattle.sf_algebra.specs.Vectors.{Vector}
 use Rattle.sf_algebra.specs.Matrices.{row_degrees}
 use Rattle.sf_algebra.specs.Printing.{comma}
+use Rattle.sf_algebra.specs.Vectors.{Vector}
 use Rattle.sf_session.specs.Joins.{separator_after}
 use Rattle.sf_session.proofs.JoinedItems.{joined_from-start, joined_from_more}
 use Rattle.sf_session.proofs.printing.degrees.print_row_degrees.Goals as goal

@@ -1,6 +1,6 @@
 use Rattle.std.proofs.Common.{◌++◌, ap, ◌∙◌}
-use Rattle.sf_algebra.specs.Vectors.{Vector}
 use Rattle.sf_algebra.specs.Printing.{semicolon, row_text}
+use Rattle.sf_algebra.specs.Vectors.{Vector}
 use Rattle.sf_session.proofs.JoinedItems.{joined_from-start, joined_from_more}
 use Rattle.sf_session.proofs.printing.matrix.print_rows.Goals as goal
 

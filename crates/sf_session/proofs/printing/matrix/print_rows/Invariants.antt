@@ -1,7 +1,7 @@
 use Rattle.std.proofs.Common.{◌≡◌, ◌++◌, map}
 use Rattle.std.specs.List.{join_with_byte}
-use Rattle.sf_algebra.specs.Vectors.{Vector}
 use Rattle.sf_algebra.specs.Printing.{semicolon, row_text}
+use Rattle.sf_algebra.specs.Vectors.{Vector}
 use Rattle.sf_session.proofs.JoinedItems.{joined_from}
 use Rattle.sf_session.proofs.printing.matrix.print_rows.Given as goal
 

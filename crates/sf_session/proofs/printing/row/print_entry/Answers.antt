@@ -1,6 +1,6 @@
 use Rattle.std.proofs.Common.{◌∙◌, arith}
-use Rattle.sf_session.proofs.PrintedTerms.{polynomial_from_more, polynomial_from-written, polynomial_from-zero}
 use Rattle.sf_session.proofs.PrintedRows.{entry-drop_past}
+use Rattle.sf_session.proofs.PrintedTerms.{polynomial_from_more, polynomial_from-written, polynomial_from-zero}
 use Rattle.sf_session.proofs.printing.row.print_entry.Goals as goal
 
 pub loop-a-preserved : goal.loop-a-preserved

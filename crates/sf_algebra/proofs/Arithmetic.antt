@@ -1,0 +1,4 @@
+-- Residues, primes and inverses.
+pub mod Residues
+pub mod Primes
+pub mod Inverses

@@ -1,0 +1,6 @@
+-- What loops over pairs keep.
+pub mod GrowingRows
+pub mod PendingPairs
+pub mod PendingDegrees
+pub mod HandledPairs
+pub mod HomogeneousPairs

@@ -1,0 +1,21 @@
+-- Buchberger's criterion and Schreyer's theorem, from one lemma on gathering coefficients.
+pub mod LeadMultiples
+pub mod Exchanges
+pub mod Multiplied
+pub mod TopCoefficients
+pub mod Gather
+pub mod Standard
+pub mod Settled
+pub mod Pairs
+pub mod MonicRows
+pub mod Kernels
+pub mod Buchberger
+pub mod Schreyer
+pub mod SyzygySpans
+pub mod PairDegrees
+pub mod BoundedCriterion
+pub mod PairSyzygies
+pub mod FewerSyzygies
+pub mod MonicSums
+pub mod SVectors
+pub mod Representations
