@@ -18,7 +18,8 @@ use Rattle.sf_matrix.specs.Bounds.{IsDegree, SumsFit, KroneckerFits}
 use Rattle.algebra_bench.specs.Operands.{AreFlat, IsLow, IsOperand}
 
 -- the degree of a generator that is there
-generator_degree-flat : (ds : List ℤ) (i : ℕ) → AllByRecursion (λ (d : ℤ). d ≡ pos 0) ds → i < length ds → generator_degree ds i ≡ pos 0
+generator_degree-flat : (ds : List ℤ) (i : ℕ) → AllByRecursion (λ (d : ℤ). d ≡ pos 0) ds → i < length ds
+    → generator_degree ds i ≡ pos 0
 generator_degree-flat [] i h below = absurd (omega arith)
 generator_degree-flat (d ∷ ds) zero h below = h.0
 generator_degree-flat (d ∷ ds) (suc i) h below = generator_degree-flat ds i h.1 (omega arith)
@@ -46,19 +47,25 @@ pub degrees_fit : (a b : Matrix) → IsOperand a → IsOperand b → SumsFit (ro
 degrees_fit a b h k = lows_fit _ _ h.rows k.rows
 
 -- a term of a row of low degree
-low_sum : (weights : Weights) → IsPositive weights → (ds : List ℤ) (d : ℤ) (t : Term Place) → AllByRecursion (λ (e : ℤ). e ≡ pos 0) ds → IsLow d → IsTermOfDegree weights ds d t → exponent_sum t.at.monomial ≤ 1
+low_sum : (weights : Weights) → IsPositive weights → (ds : List ℤ) (d : ℤ) (t : Term Place)
+    → AllByRecursion (λ (e : ℤ). e ≡ pos 0) ds → IsLow d → IsTermOfDegree weights ds d t
+    → exponent_sum t.at.monomial ≤ 1
 low_sum weights positive ds d t flat low h =
     let bound = exponent_sum-at_most weights positive t.at.monomial in
     let degree = generator_degree-flat ds t.at.position flat h.0 in
     omega (arith, ints, degree, low.1, h.1)
 
 -- the terms of the rows of a small matrix
-low_sums : (ring : Ring) → IsPositive ring.weights → (ds : List ℤ) (vs : List Vector) → AllByRecursion (λ (e : ℤ). e ≡ pos 0) ds → AllByRecursion (IsVector ring ds) vs → AllByRecursion IsLow (map (λ (v : Vector). v.degree) vs)
+low_sums : (ring : Ring) → IsPositive ring.weights → (ds : List ℤ) (vs : List Vector)
+    → AllByRecursion (λ (e : ℤ). e ≡ pos 0) ds → AllByRecursion (IsVector ring ds) vs
+    → AllByRecursion IsLow (map (λ (v : Vector). v.degree) vs)
     → AllByRecursion (λ (v : Vector). AllByRecursion (λ (t : Term Place). exponent_sum t.at.monomial ≤ 1) v.terms) vs
 low_sums ring positive ds [] flat h k = tt
-low_sums ring positive ds (v ∷ vs) flat h k = (AllByRecursion-weaken _ _ (λ t e. low_sum ring.weights positive ds v.degree t flat k.0 e) v.terms h.0.homogeneous, low_sums ring positive ds vs flat h.1 k.1)
+low_sums ring positive ds (v ∷ vs) flat h k =
+    (AllByRecursion-weaken _ _ (λ t e. low_sum ring.weights positive ds v.degree t flat k.0 e) v.terms h.0.homogeneous, low_sums ring positive ds vs flat h.1 k.1)
 
-fits : (t u : Term Place) → exponent_sum t.at.monomial ≤ 1 → exponent_sum u.at.monomial ≤ 1 → exponent_sum t.at.monomial + exponent_sum u.at.monomial ≤ GREATEST_SUM
+fits : (t u : Term Place) → exponent_sum t.at.monomial ≤ 1 → exponent_sum u.at.monomial ≤ 1
+    → exponent_sum t.at.monomial + exponent_sum u.at.monomial ≤ GREATEST_SUM
 fits t u h k = omega arith
 
 pub products_fit : (a b : Matrix) → IsOperand a → IsOperand b → KroneckerFits a.rows b.rows
@@ -70,13 +77,19 @@ products_fit a b h k =
     a.rows (low_sums a.ring h.weights a.target a.rows h.target.flat h.matrix h.rows)
 
 -- the vector of degree 1 that terms of degree 1 mean
-pub IsVector-meant : (p : ℕ) (ds : List ℤ) (ts : List (Term Place)) (v : Vector) → AllByRecursion (IsTermOfDegree ones ds (pos 1)) ts → v ≡ record { degree = pos 1; terms = normal (place_cmp ones) p ts } → IsCanonical (place_cmp ones) p v.terms
+pub IsVector-meant : (p : ℕ) (ds : List ℤ) (ts : List (Term Place)) (v : Vector)
+    → AllByRecursion (IsTermOfDegree ones ds (pos 1)) ts
+    → v ≡ record { degree = pos 1; terms = normal (place_cmp ones) p ts } → IsCanonical (place_cmp ones) p v.terms
     → IsVector (plain p) ds v
 IsVector-meant p ds ts v h meant canonical = record {
   canonical = canonical;
-  homogeneous = subst (λ (w : Vector). IsHomogeneous ones ds w.degree w.terms) (sym meant) (IsHomogeneous-normal ds (plain p) (pos 1) ts h);
+  homogeneous =
+      subst (λ (w : Vector). IsHomogeneous ones ds w.degree w.terms) (sym meant)
+      (IsHomogeneous-normal ds (plain p) (pos 1) ts h);
 }
 
 -- the identity over the target of a small matrix
-pub IsOperand-identity_over : (p : ℕ) (a b : Matrix) (ds : List ℤ) → 1 < p → IsOperand a → ds ≡ a.target → b ≡ identity (plain p) ds → IsOperand b
-IsOperand-identity_over p a b ds above h same meant = subst IsOperand (sym meant) (IsOperand-identity p ds above (subst AreFlat (sym same) h.target))
+pub IsOperand-identity_over : (p : ℕ) (a b : Matrix) (ds : List ℤ) → 1 < p → IsOperand a → ds ≡ a.target
+    → b ≡ identity (plain p) ds → IsOperand b
+IsOperand-identity_over p a b ds above h same meant =
+    subst IsOperand (sym meant) (IsOperand-identity p ds above (subst AreFlat (sym same) h.target))

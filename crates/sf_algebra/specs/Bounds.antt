@@ -27,7 +27,8 @@ pub record HasSmallSize (m : Matrix) : Type 0 where
 
 -- numbers of rows and columns are within bounds, and degrees from `low` to `high`
 abbrev pub Fits : ℕ → ℕ → ℤ → ℤ → Type 0
-Fits rows columns low high = (rows ≤ GREATEST_SIZE) × ((columns ≤ GREATEST_SIZE) × ((neg_ℤ GREATEST_DEGREE ≤ℤ low) × (high ≤ℤ GREATEST_DEGREE)))
+Fits rows columns low high =
+    (rows ≤ GREATEST_SIZE) × ((columns ≤ GREATEST_SIZE) × ((neg_ℤ GREATEST_DEGREE ≤ℤ low) × (high ≤ℤ GREATEST_DEGREE)))
 
 -- d is one of these degrees
 abbrev pub IsOneOf : ℤ → List ℤ → Type 0

@@ -17,40 +17,48 @@ use Rattle.sf_algebra.specs.Vectors.{Place, Vector, place_cmp, entry, IsCanonica
 
 -- a combination is canonical
 abbrev pub HasCanonicalCombinations : Type 0
-HasCanonicalCombinations = (ring : Ring) → 0 < ring.modulus → (rows : List Vector) (c : List (Term Place)) → IsCanonicalRow ring (row_combination ring rows c)
+HasCanonicalCombinations =
+    (ring : Ring) → 0 < ring.modulus → (rows : List Vector) (c : List (Term Place)) → IsCanonicalRow ring
+    (row_combination ring rows c)
 
 -- the product of the coefficients of a term of c and a term of its row whose product stands at k, and 0 for other terms
 abbrev pub combination_part : Ring → Place → Term Place → Term Place → ℕ
-combination_part ring k t u = if is_eq (place_cmp ring.weights (place_product t.at.monomial u.at) k) then product_mod ring.modulus t.coefficient u.coefficient else 0
+combination_part ring k t u =
+    if is_eq (place_cmp ring.weights (place_product t.at.monomial u.at) k) then product_mod ring.modulus t.coefficient u.coefficient else 0
 
 -- the coefficient of c M at k is the sum, over the terms of c and of their rows whose product stands at k, of the products of their coefficients
 abbrev pub SumsProductsWithRows : Type 0
 SumsProductsWithRows =
     (ring : Ring) (rows : List Vector) (c : List (Term Place)) (k : Place)
-    → coefficient_at (place_cmp ring.weights) ring.modulus k (row_combination ring rows c) ≡ total ring.modulus (λ t. total ring.modulus (combination_part ring k t) (row_at rows t.at.position)) c
+    → coefficient_at (place_cmp ring.weights) ring.modulus k (row_combination ring rows c)
+    ≡ total ring.modulus (λ t. total ring.modulus (combination_part ring k t) (row_at rows t.at.position)) c
 
 -- the entries of c M are the sums of the products of the entries of c and those of a column of M
 abbrev pub SumsProductsOfEntries : Type 0
 SumsProductsOfEntries =
-    (ring : Ring) → 0 < ring.modulus → (rows : List Vector) (c : List (Term Place)) (j : ℕ) → entry j (row_combination ring rows c) ≡ entry_products ring j c 0 rows
+    (ring : Ring) → 0 < ring.modulus → (rows : List Vector) (c : List (Term Place)) (j : ℕ) → entry j
+    (row_combination ring rows c) ≡ entry_products ring j c 0 rows
 
 -- one coefficient gives the multiple of the row at its position by its monomial
 abbrev pub MultipliesRows : Type 0
 MultipliesRows =
     (ring : Ring) → 0 < ring.modulus → (rows : List Vector) (t : Term Place)
-    → row_combination ring rows (t ∷ []) ≡ row_multiple ring (record { at = t.at.monomial; coefficient = t.coefficient }) (row_at rows t.at.position)
+    → row_combination ring rows (t ∷ [])
+    ≡ row_multiple ring (record { at = t.at.monomial; coefficient = t.coefficient }) (row_at rows t.at.position)
 
 -- the combination with a sum of coefficients
 abbrev pub IsAdditiveInCoefficients : Type 0
 IsAdditiveInCoefficients =
     (ring : Ring) → 0 < ring.modulus → (rows : List Vector) (c d : List (Term Place))
-    → row_combination ring rows (row_sum ring c d) ≡ row_sum ring (row_combination ring rows c) (row_combination ring rows d)
+    → row_combination ring rows (row_sum ring c d)
+    ≡ row_sum ring (row_combination ring rows c) (row_combination ring rows d)
 
 -- the combination of rows each of which is the sum of two rows
 abbrev pub IsAdditiveInRows : Type 0
 IsAdditiveInRows =
     (ring : Ring) → 0 < ring.modulus → (sums rows others : List Vector) → ((i : ℕ) → row_at sums i ≡ row_sum ring (row_at rows i) (row_at others i))
-    → (c : List (Term Place)) → row_combination ring sums c ≡ row_sum ring (row_combination ring rows c) (row_combination ring others c)
+    → (c : List (Term Place))
+    → row_combination ring sums c ≡ row_sum ring (row_combination ring rows c) (row_combination ring others c)
 
 -- the combination with a multiple of the coefficients
 abbrev pub TakesMultiples : Type 0
@@ -74,7 +82,8 @@ NegatesWithMatrices =
 abbrev pub IsAssociativeWithProducts : Type 0
 IsAssociativeWithProducts =
     (m n : Matrix) → 0 < m.ring.modulus → (c : List (Term Place))
-    → row_combination m.ring n.rows (row_combination m.ring m.rows c) ≡ row_combination m.ring (matrix_product m n).rows c
+    → row_combination m.ring n.rows (row_combination m.ring m.rows c)
+    ≡ row_combination m.ring (matrix_product m n).rows c
 
 -- a unit vector of coefficients picks a row
 abbrev pub PicksRows : Type 0
@@ -85,11 +94,14 @@ PicksRows =
 -- unit rows give the coefficients back
 abbrev pub KeepsWithUnitRows : Type 0
 KeepsWithUnitRows =
-    (ring : Ring) → 0 < ring.modulus → (degrees : List ℤ) (c : List (Term Place)) → IsCanonicalRow ring c → AllByRecursion (λ t. t.at.position < length degrees) c
+    (ring : Ring) → 0 < ring.modulus → (degrees : List ℤ)
+    (c : List (Term Place)) → IsCanonicalRow ring c → AllByRecursion (λ t. t.at.position < length degrees) c
     → row_combination ring (unit_rows 0 degrees) c ≡ c
 
 -- the combination of rows and further rows is the sum of a combination of each
 abbrev pub AddsOverStackedRows : Type 0
 AddsOverStackedRows =
-    (ring : Ring) → 0 < ring.modulus → (rows more : List Vector) (c d : List (Term Place)) → AllByRecursion (λ t. t.at.position < length rows) c
-    → row_combination ring (rows ++ more) (c ++ moved (length rows) d) ≡ row_sum ring (row_combination ring rows c) (row_combination ring more d)
+    (ring : Ring) → 0 < ring.modulus → (rows more : List Vector) (c d : List (Term Place)) → AllByRecursion
+    (λ t. t.at.position < length rows) c
+    → row_combination ring (rows ++ more) (c ++ moved (length rows) d)
+    ≡ row_sum ring (row_combination ring rows c) (row_combination ring more d)

@@ -6,11 +6,14 @@ use Rattle.sf_algebra.specs.Rings.{Weights, IsPositive, ones, weight}
 
 -- the degree of a variable is its weight
 abbrev pub GivesVariablesTheirWeights : Type 0
-GivesVariablesTheirWeights = (weights : Weights) (i : ℕ) → i < VARIABLES → monomial_degree weights (variable i) ≡ weight weights i
+GivesVariablesTheirWeights =
+    (weights : Weights) (i : ℕ) → i < VARIABLES → monomial_degree weights (variable i) ≡ weight weights i
 
 -- the degree of a product is the sum of the factors' degrees
 abbrev pub AddsMonomialDegrees : Type 0
-AddsMonomialDegrees = (weights : Weights) (a b : Monomial) → monomial_degree weights (product a b) ≡ monomial_degree weights a + monomial_degree weights b
+AddsMonomialDegrees =
+    (weights : Weights) (a b : Monomial) → monomial_degree weights
+    (product a b) ≡ monomial_degree weights a + monomial_degree weights b
 
 -- where each variable has the weight 1, the degree is the sum of the exponents
 abbrev pub SumsExponents : Type 0

@@ -24,7 +24,8 @@ DividesAntisymmetrically = (a b : Monomial) → Divides a b → Divides b a → 
 
 -- a divisor is not greater in the order
 abbrev pub DividesNoLesser : Type 0
-DividesNoLesser = (weights : Weights) → IsPositive weights → (a b : Monomial) → Divides a b → monomial_cmp weights a b ≢ Greater
+DividesNoLesser =
+    (weights : Weights) → IsPositive weights → (a b : Monomial) → Divides a b → monomial_cmp weights a b ≢ Greater
 
 -- a divisor times the quotient by it is the monomial that it divides
 abbrev pub MultipliesBack : Type 0
@@ -48,8 +49,11 @@ IsLeastMultiple = (a b c : Monomial) → Divides a c → Divides b c → Divides
 
 -- its degree is no less than theirs
 abbrev pub HasGreaterDegree : Type 0
-HasGreaterDegree = (weights : Weights) (a b : Monomial) → (monomial_degree weights a ≤ monomial_degree weights (lcm a b)) × (monomial_degree weights b ≤ monomial_degree weights (lcm a b))
+HasGreaterDegree =
+    (weights : Weights) (a b : Monomial) → (monomial_degree weights a ≤ monomial_degree weights (lcm a b)) × (monomial_degree weights b ≤ monomial_degree weights (lcm a b))
 
 -- its degree is no greater than theirs together
 abbrev pub HasBoundedDegree : Type 0
-HasBoundedDegree = (weights : Weights) (a b : Monomial) → monomial_degree weights (lcm a b) ≤ monomial_degree weights a + monomial_degree weights b
+HasBoundedDegree =
+    (weights : Weights) (a b : Monomial) → monomial_degree weights
+    (lcm a b) ≤ monomial_degree weights a + monomial_degree weights b

@@ -15,7 +15,8 @@ pub record IsField (p : ℕ) : Type 0 where
   pub product_commutes : (a b : ℕ) → product_mod p a b ≡ product_mod p b a
   pub product_associates : (a b c : ℕ) → product_mod p (product_mod p a b) c ≡ product_mod p a (product_mod p b c)
   pub product_with_one : (a : ℕ) → a < p → product_mod p a 1 ≡ a
-  pub product_distributes : (a b c : ℕ) → product_mod p a (sum_mod p b c) ≡ sum_mod p (product_mod p a b) (product_mod p a c)
+  pub product_distributes : (a b c : ℕ)
+      → product_mod p a (sum_mod p b c) ≡ sum_mod p (product_mod p a b) (product_mod p a c)
   pub inverse : (a : ℕ) → 0 < a → a < p → (b : ℕ) × (b < p) × (product_mod p a b ≡ 1)
 
 -- a residue has at most one inverse

@@ -13,7 +13,9 @@ HasCanonicalSums {K} cmp = (p : ℕ) → 0 < p → (us vs : List (Term K)) → I
 
 -- the coefficients of a sum are the sums of the coefficients
 abbrev pub AddsCoefficients : {K : Type 0} → (K → K → Ordering) → Type 0
-AddsCoefficients {K} cmp = (p : ℕ) (us vs : List (Term K)) (k : K) → coefficient_at cmp p k (add cmp p us vs) ≡ sum_mod p (coefficient_at cmp p k us) (coefficient_at cmp p k vs)
+AddsCoefficients {K} cmp =
+    (p : ℕ) (us vs : List (Term K)) (k : K) → coefficient_at cmp p k (add cmp p us vs) ≡ sum_mod p
+    (coefficient_at cmp p k us) (coefficient_at cmp p k vs)
 
 -- the terms of a sum may be exchanged
 abbrev pub HasCommutativeSums : {K : Type 0} → (K → K → Ordering) → Type 0
@@ -21,7 +23,8 @@ HasCommutativeSums {K} cmp = (p : ℕ) → 0 < p → (us vs : List (Term K)) →
 
 -- three terms of a sum may be grouped either way
 abbrev pub HasAssociativeSums : {K : Type 0} → (K → K → Ordering) → Type 0
-HasAssociativeSums {K} cmp = (p : ℕ) → 0 < p → (us vs ws : List (Term K)) → add cmp p (add cmp p us vs) ws ≡ add cmp p us (add cmp p vs ws)
+HasAssociativeSums {K} cmp =
+    (p : ℕ) → 0 < p → (us vs ws : List (Term K)) → add cmp p (add cmp p us vs) ws ≡ add cmp p us (add cmp p vs ws)
 
 -- the empty list is the zero
 abbrev pub HasZero : {K : Type 0} → (K → K → Ordering) → Type 0

@@ -16,20 +16,24 @@ use Rattle.sf_algebra.specs.Vectors.{Place, Vector, place_cmp, IsVector, IsCanon
 abbrev pub HasHomogeneousSums : Type 0
 HasHomogeneousSums =
     (ring : Ring) → 0 < ring.modulus → (degrees : List ℤ) (d : ℤ) (us vs : List (Term Place))
-    → IsVector ring degrees (record { degree = d; terms = us }) → IsVector ring degrees (record { degree = d; terms = vs })
+    → IsVector ring degrees (record { degree = d; terms = us })
+    → IsVector ring degrees (record { degree = d; terms = vs })
     → IsVector ring degrees (record { degree = d; terms = row_sum ring us vs })
 
 -- the negative of a vector
 abbrev pub HasHomogeneousNegatives : Type 0
 HasHomogeneousNegatives =
     (ring : Ring) (degrees : List ℤ) (d : ℤ) (us : List (Term Place))
-    → IsVector ring degrees (record { degree = d; terms = us }) → IsVector ring degrees (record { degree = d; terms = negative ring.modulus us })
+    → IsVector ring degrees (record { degree = d; terms = us })
+    → IsVector ring degrees (record { degree = d; terms = negative ring.modulus us })
 
 -- a multiple has the sum of the degrees
 abbrev pub AddsDegrees : Type 0
 AddsDegrees =
-    (ring : Ring) → 0 < ring.modulus → (degrees : List ℤ) (d : ℤ) (s : Term Monomial) (us : List (Term Place)) → IsVector ring degrees (record { degree = d; terms = us })
-    → IsVector ring degrees (record { degree = d +ℤ pos (monomial_degree ring.weights s.at); terms = row_multiple ring s us })
+    (ring : Ring) → 0 < ring.modulus → (degrees : List ℤ) (d : ℤ) (s : Term Monomial)
+    (us : List (Term Place)) → IsVector ring degrees (record { degree = d; terms = us })
+    → IsVector ring degrees
+    (record { degree = d +ℤ pos (monomial_degree ring.weights s.at); terms = row_multiple ring s us })
 
 -- a vector over the rows of a matrix times the matrix
 abbrev pub HasHomogeneousCombinations : Type 0

@@ -16,19 +16,22 @@ HasKroneckerProducts =
 abbrev pub MultipliesEntries : Type 0
 MultipliesEntries =
     (a b : Matrix) → 0 < a.ring.modulus → IsMatrix b → (i k j l : ℕ) → k < length b.rows → l < length b.target
-    → entry (j * length b.target + l) (row_at (kronecker a b).rows (i * length b.rows + k)) ≡ polynomial_product a.ring (entry j (row_at a.rows i)) (entry l (row_at b.rows k))
+    → entry (j * length b.target + l) (row_at (kronecker a b).rows (i * length b.rows + k))
+    ≡ polynomial_product a.ring (entry j (row_at a.rows i)) (entry l (row_at b.rows k))
 
 -- with an identity as the first factor, the rows of the second stand in blocks of its columns
 abbrev pub RepeatsSecondFactor : Type 0
 RepeatsSecondFactor =
     (degrees : List ℤ) (b : Matrix) → 0 < b.ring.modulus → IsMatrix b → (i k : ℕ) → i < length degrees → k < length b.rows
-    → row_at (kronecker (identity b.ring degrees) b).rows (i * length b.rows + k) ≡ moved (i * length b.target) (row_at b.rows k)
+    → row_at (kronecker (identity b.ring degrees) b).rows (i * length b.rows + k)
+    ≡ moved (i * length b.target) (row_at b.rows k)
 
 -- with an identity as the second factor, the entries of the first stand where the identity has its ones
 abbrev pub SpreadsFirstFactor : Type 0
 SpreadsFirstFactor =
     (a : Matrix) (degrees : List ℤ) → 1 < a.ring.modulus → IsMatrix a → (i k j l : ℕ) → k < length degrees → l < length degrees
-    → entry (j * length degrees + l) (row_at (kronecker a (identity a.ring degrees)).rows (i * length degrees + k)) ≡ (if k == l then entry j (row_at a.rows i) else [])
+    → entry (j * length degrees + l) (row_at (kronecker a (identity a.ring degrees)).rows (i * length degrees + k))
+    ≡ (if k == l then entry j (row_at a.rows i) else [])
 
 -- the identity of the ring, the free module with one generator of degree 0, may be left out
 abbrev pub LeavesOutRing : Type 0
@@ -36,7 +39,9 @@ LeavesOutRing = (b : Matrix) → 0 < b.ring.modulus → IsMatrix b → kronecker
 
 -- identities give an identity
 abbrev pub KeepsIdentities : Type 0
-KeepsIdentities = (ring : Ring) → 1 < ring.modulus → (ds es : List ℤ) → kronecker (identity ring ds) (identity ring es) ≡ identity ring (degree_sums ds es)
+KeepsIdentities =
+    (ring : Ring) → 1 < ring.modulus → (ds es : List ℤ) → kronecker (identity ring ds)
+    (identity ring es) ≡ identity ring (degree_sums ds es)
 
 -- products give a product
 abbrev pub KeepsProducts : Type 0
@@ -56,8 +61,11 @@ KeepsStacks = (a b c : Matrix) → a.ring ≡ b.ring → kronecker (stacked a b)
 
 -- the negative of the first factor gives the negative
 abbrev pub TakesFirstNegative : Type 0
-TakesFirstNegative = (a b : Matrix) → 0 < a.ring.modulus → IsMatrix a → kronecker (negated a) b ≡ negated (kronecker a b)
+TakesFirstNegative =
+    (a b : Matrix) → 0 < a.ring.modulus → IsMatrix a → kronecker (negated a) b ≡ negated (kronecker a b)
 
 -- the negative of the second factor gives the negative
 abbrev pub TakesSecondNegative : Type 0
-TakesSecondNegative = (a b : Matrix) → 0 < a.ring.modulus → a.ring ≡ b.ring → IsMatrix b → kronecker a (negated b) ≡ negated (kronecker a b)
+TakesSecondNegative =
+    (a b : Matrix) → 0 < a.ring.modulus → a.ring ≡ b.ring → IsMatrix b → kronecker a (negated b) ≡ negated
+    (kronecker a b)

@@ -22,11 +22,15 @@ row_combination ring rows c = combination (place_cmp ring.weights) place_product
 -- the sum, over rows that stand from position i on, of the products of the entries of c at their positions and their entries at j
 abbrev pub entry_products : Ring → ℕ → List (Term Place) → ℕ → List Vector → List (Term Monomial)
 entry_products ring j c i [] = []
-entry_products ring j c i (v ∷ vs) = polynomial_sum ring (polynomial_product ring (entry i c) (entry j v.terms)) (entry_products ring j c (suc i) vs)
+entry_products ring j c i (v ∷ vs) =
+    polynomial_sum ring (polynomial_product ring (entry i c) (entry j v.terms)) (entry_products ring j c (suc i) vs)
 
 -- the unit vector of a generator of degree d at position i
 abbrev pub unit_vector : ℤ → ℕ → Vector
-unit_vector d i = record { degree = d; terms = record { at = record { position = i; monomial = one }; coefficient = 1 } ∷ [] }
+unit_vector d i = record {
+  degree = d;
+  terms = record { at = record { position = i; monomial = one }; coefficient = 1 } ∷ [];
+}
 
 -- the unit vectors of generators of these degrees, the first of which stands at position i
 abbrev pub unit_rows : ℕ → List ℤ → List Vector
@@ -63,7 +67,8 @@ negated m = record {
 
 -- the terms of a polynomial at a position
 abbrev pub at_position : ℕ → List (Term Monomial) → List (Term Place)
-at_position i ts = map (λ (t : Term Monomial). record { at = record { position = i; monomial = t.at }; coefficient = t.coefficient }) ts
+at_position i ts =
+    map (λ (t : Term Monomial). record { at = record { position = i; monomial = t.at }; coefficient = t.coefficient }) ts
 
 -- column j, the first of whose entries stands at position i
 abbrev pub column_terms : ℕ → ℕ → List Vector → List (Term Place)
@@ -81,7 +86,8 @@ transposed m = record { ring = m.ring; target = map neg_ℤ (row_degrees m); row
 
 -- terms, so many positions further on
 abbrev pub moved : ℕ → List (Term Place) → List (Term Place)
-moved by ts = map (λ (t : Term Place). record { at = record { position = by + t.at.position; monomial = t.at.monomial }; coefficient = t.coefficient }) ts
+moved by ts =
+    map (λ (t : Term Place). record { at = record { position = by + t.at.position; monomial = t.at.monomial }; coefficient = t.coefficient }) ts
 
 -- the tensor product of a vector v and a vector w of a free module with n generators
 abbrev pub kronecker_terms : Ring → ℕ → List (Term Place) → List (Term Place) → List (Term Place)
@@ -96,7 +102,8 @@ abbrev pub kronecker : Matrix → Matrix → Matrix
 kronecker a b = record {
   ring = a.ring;
   target = degree_sums a.target b.target;
-  rows = flat_map (λ (v : Vector). map (λ (w : Vector). record { degree = v.degree +ℤ w.degree; terms = kronecker_terms a.ring (length b.target) v.terms w.terms }) b.rows) a.rows;
+  rows =
+      flat_map (λ (v : Vector). map (λ (w : Vector). record { degree = v.degree +ℤ w.degree; terms = kronecker_terms a.ring (length b.target) v.terms w.terms }) b.rows) a.rows;
 }
 
 -- the terms at the positions from `from` to before `to`, counted from `from`

@@ -12,17 +12,21 @@ use Rattle.sf_algebra.specs.Terms.{Term, IsNonzeroResidue, IsCanonical}
 
 -- a multiple is canonical
 abbrev pub HasCanonicalMultiples : {K : Type 0} → (K → K → Ordering) → (Monomial → K → K) → Type 0
-HasCanonicalMultiples {K} cmp act = (p : ℕ) → 0 < p → (s : Term Monomial) (us : List (Term K)) → IsCanonical cmp p (multiple cmp act p s us)
+HasCanonicalMultiples {K} cmp act =
+    (p : ℕ) → 0 < p → (s : Term Monomial) (us : List (Term K)) → IsCanonical cmp p (multiple cmp act p s us)
 
 -- the coefficient of a multiple at k: the sum of the products of the coefficients, over the terms whose product stands at k
 abbrev pub MultipliesCoefficients : {K : Type 0} → (K → K → Ordering) → (Monomial → K → K) → Type 0
 MultipliesCoefficients {K} cmp act =
     (p : ℕ) (s : Term Monomial) (us : List (Term K)) (k : K)
-    → coefficient_at cmp p k (multiple cmp act p s us) ≡ total p (λ u. if is_eq (cmp (act s.at u.at) k) then product_mod p s.coefficient u.coefficient else 0) us
+    → coefficient_at cmp p k (multiple cmp act p s us)
+    ≡ total p (λ u. if is_eq (cmp (act s.at u.at) k) then product_mod p s.coefficient u.coefficient else 0) us
 
 -- a canonical list times 1 is the list
 abbrev pub KeepsWithOne : {K : Type 0} → (K → K → Ordering) → (Monomial → K → K) → Type 0
-KeepsWithOne {K} cmp act = (p : ℕ) → 0 < p → (us : List (Term K)) → IsCanonical cmp p us → multiple cmp act p (record { at = one; coefficient = 1 }) us ≡ us
+KeepsWithOne {K} cmp act =
+    (p : ℕ) → 0 < p → (us : List (Term K)) → IsCanonical cmp p us → multiple cmp act p
+    (record { at = one; coefficient = 1 }) us ≡ us
 
 -- a multiple of a multiple is the multiple by the product
 abbrev pub ActsByProducts : {K : Type 0} → (K → K → Ordering) → (Monomial → K → K) → Type 0
@@ -41,12 +45,14 @@ abbrev pub TakesSumsOfCoefficients : {K : Type 0} → (K → K → Ordering) →
 TakesSumsOfCoefficients {K} cmp act =
     (p : ℕ) → 0 < p → (a : Monomial) (x y : ℕ) (us : List (Term K))
     → multiple cmp act p (record { at = a; coefficient = sum_mod p x y }) us
-    ≡ add cmp p (multiple cmp act p (record { at = a; coefficient = x }) us) (multiple cmp act p (record { at = a; coefficient = y }) us)
+    ≡ add cmp p (multiple cmp act p (record { at = a; coefficient = x }) us)
+    (multiple cmp act p (record { at = a; coefficient = y }) us)
 
 -- a canonical list times -1 is its negative
 abbrev pub NegatesWithNegativeOne : {K : Type 0} → (K → K → Ordering) → (Monomial → K → K) → Type 0
 NegatesWithNegativeOne {K} cmp act =
-    (p : ℕ) → 0 < p → (us : List (Term K)) → IsCanonical cmp p us → multiple cmp act p (record { at = one; coefficient = negative_mod p 1 }) us ≡ negative p us
+    (p : ℕ) → 0 < p → (us : List (Term K)) → IsCanonical cmp p us → multiple cmp act p
+    (record { at = one; coefficient = negative_mod p 1 }) us ≡ negative p us
 
 -- modulo a prime, a multiple by a term with a nonzero coefficient has the product with each term, in the same order
 abbrev pub MultipliesEachTerm : {K : Type 0} → (K → K → Ordering) → (Monomial → K → K) → Type 0

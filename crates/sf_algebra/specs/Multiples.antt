@@ -18,7 +18,8 @@ abbrev pub term_product : {K : Type 0} → (Monomial → K → K) → ℕ → Te
 term_product act p s t = record { at = act s.at t.at; coefficient = product_mod p s.coefficient t.coefficient }
 
 -- a term of a polynomial times a list of terms
-unfoldable pub multiple : {K : Type 0} → (K → K → Ordering) → (Monomial → K → K) → ℕ → Term Monomial → List (Term K) → List (Term K)
+unfoldable pub multiple : {K : Type 0} → (K → K → Ordering) → (Monomial → K → K) → ℕ → Term Monomial → List (Term K)
+    → List (Term K)
 multiple cmp act p s ts = normal cmp p (map (term_product act p s) ts)
 
 -- a term with the negative of its coefficient
@@ -30,9 +31,12 @@ abbrev pub negative : {K : Type 0} → ℕ → List (Term K) → List (Term K)
 negative p ts = map (negative_term p) ts
 
 -- the terms of a combination: each term of c, by the monomial at which it stands, times the list for which it stands
-unfoldable pub combination_terms : {C K : Type 0} → (Monomial → K → K) → ℕ → (C → Monomial) → (C → List (Term K)) → List (Term C) → List (Term K)
-combination_terms act p monomial row c = flat_map (λ t. map (term_product act p (record { at = monomial t.at; coefficient = t.coefficient })) (row t.at)) c
+unfoldable pub combination_terms : {C K : Type 0} → (Monomial → K → K) → ℕ → (C → Monomial) → (C → List (Term K))
+    → List (Term C) → List (Term K)
+combination_terms act p monomial row c =
+    flat_map (λ t. map (term_product act p (record { at = monomial t.at; coefficient = t.coefficient })) (row t.at)) c
 
 -- the combination of lists of terms with the coefficients c
-unfoldable pub combination : {C K : Type 0} → (K → K → Ordering) → (Monomial → K → K) → ℕ → (C → Monomial) → (C → List (Term K)) → List (Term C) → List (Term K)
+unfoldable pub combination : {C K : Type 0} → (K → K → Ordering) → (Monomial → K → K) → ℕ → (C → Monomial)
+    → (C → List (Term K)) → List (Term C) → List (Term K)
 combination cmp act p monomial row c = normal cmp p (combination_terms act p monomial row c)

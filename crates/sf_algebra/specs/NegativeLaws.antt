@@ -11,7 +11,8 @@ HasMatrixNegatives = (m : Matrix) → IsMatrix m → IsMatrix (negated m) × (ro
 
 -- its entries are the negatives of the entries
 abbrev pub NegatesEntries : Type 0
-NegatesEntries = (m : Matrix) (i j : ℕ) → entry j (row_at (negated m).rows i) ≡ negative m.ring.modulus (entry j (row_at m.rows i))
+NegatesEntries =
+    (m : Matrix) (i j : ℕ) → entry j (row_at (negated m).rows i) ≡ negative m.ring.modulus (entry j (row_at m.rows i))
 
 -- a second negative undoes the first
 abbrev pub NegatesBack : Type 0
@@ -19,11 +20,14 @@ NegatesBack = (m : Matrix) → IsMatrix m → negated (negated m) ≡ m
 
 -- the negative of the first factor gives the negative of the product
 abbrev pub NegatesWithFirstFactor : Type 0
-NegatesWithFirstFactor = (a b : Matrix) → 0 < a.ring.modulus → IsMatrix a → matrix_product (negated a) b ≡ negated (matrix_product a b)
+NegatesWithFirstFactor =
+    (a b : Matrix) → 0 < a.ring.modulus → IsMatrix a → matrix_product (negated a) b ≡ negated (matrix_product a b)
 
 -- the negative of the second factor gives the negative of the product
 abbrev pub NegatesWithSecondFactor : Type 0
-NegatesWithSecondFactor = (a b : Matrix) → 0 < a.ring.modulus → a.ring ≡ b.ring → IsMatrix b → matrix_product a (negated b) ≡ negated (matrix_product a b)
+NegatesWithSecondFactor =
+    (a b : Matrix) → 0 < a.ring.modulus → a.ring ≡ b.ring → IsMatrix b → matrix_product a (negated b) ≡ negated
+    (matrix_product a b)
 
 -- the transpose of a negative is the negative of the transpose
 abbrev pub TransposesNegatives : Type 0

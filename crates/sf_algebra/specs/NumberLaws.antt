@@ -12,7 +12,9 @@ FitsSevenDigits = (a : Monomial) → HasDigits a → monomial_number a < 2 ^ 112
 
 -- numbers compare as their monomials do
 abbrev pub ComparesLikeMonomials : Type 0
-ComparesLikeMonomials = (a b : Monomial) → HasDigits a → HasDigits b → nat_cmp (monomial_number a) (monomial_number b) ≡ monomial_cmp ones a b
+ComparesLikeMonomials =
+    (a b : Monomial) → HasDigits a → HasDigits b → nat_cmp (monomial_number a)
+    (monomial_number b) ≡ monomial_cmp ones a b
 
 -- monomials with one number are equal
 abbrev pub TellsMonomialsApart : Type 0
@@ -24,7 +26,8 @@ FitsPlaces = (k : Place) → HasPlaceDigits k → place_number k < 2 ^ 192
 
 -- numbers compare as their places do
 abbrev pub ComparesLikePlaces : Type 0
-ComparesLikePlaces = (k l : Place) → HasPlaceDigits k → HasPlaceDigits l → nat_cmp (place_number k) (place_number l) ≡ place_cmp ones k l
+ComparesLikePlaces =
+    (k l : Place) → HasPlaceDigits k → HasPlaceDigits l → nat_cmp (place_number k) (place_number l) ≡ place_cmp ones k l
 
 -- places with one number are equal
 abbrev pub TellsPlacesApart : Type 0

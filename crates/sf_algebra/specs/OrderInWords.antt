@@ -13,7 +13,8 @@ IsSmallerInLastDifference a b =
 
 -- a is greater than b: its sum of exponents is, or the sums are equal and the last exponent in which they differ is smaller in a
 abbrev pub IsGreater : Weights → Monomial → Monomial → Type 0
-IsGreater weights a b = (monomial_degree weights b < monomial_degree weights a) ⊎ ((monomial_degree weights a ≡ monomial_degree weights b) × IsSmallerInLastDifference a b)
+IsGreater weights a b =
+    (monomial_degree weights b < monomial_degree weights a) ⊎ ((monomial_degree weights a ≡ monomial_degree weights b) × IsSmallerInLastDifference a b)
 
 -- the comparison finds exactly the greater monomials greater
 abbrev pub FindsTheGreater : Type 0

@@ -30,8 +30,10 @@ HasPartsOfParts =
 abbrev pub MultipliesParts : Type 0
 MultipliesParts =
     (r0 r1 c0 c1 : ℕ) (a b : Matrix) → 0 < a.ring.modulus → IsMatrix a
-    → part r0 r1 c0 c1 (matrix_product a b) ≡ matrix_product (part r0 r1 0 (length a.target) a) (part 0 (length b.rows) c0 c1 b)
+    → part r0 r1 c0 c1 (matrix_product a b)
+    ≡ matrix_product (part r0 r1 0 (length a.target) a) (part 0 (length b.rows) c0 c1 b)
 
 -- the transpose of a part is a part of the transpose
 abbrev pub TransposesParts : Type 0
-TransposesParts = (r0 r1 c0 c1 : ℕ) (m : Matrix) → IsMatrix m → transposed (part r0 r1 c0 c1 m) ≡ part c0 c1 r0 r1 (transposed m)
+TransposesParts =
+    (r0 r1 c0 c1 : ℕ) (m : Matrix) → IsMatrix m → transposed (part r0 r1 c0 c1 m) ≡ part c0 c1 r0 r1 (transposed m)

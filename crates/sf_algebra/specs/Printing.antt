@@ -31,7 +31,8 @@ power_text name e = if e == 1 then name else name ++ codes "^" ++ decimal e
 abbrev pub factor_texts : List (List ℕ) → List ℕ → List (List ℕ)
 factor_texts [] es = []
 factor_texts (name ∷ names) [] = []
-factor_texts (name ∷ names) (e ∷ es) = if e == 0 then factor_texts names es else power_text name e ∷ factor_texts names es
+factor_texts (name ∷ names) (e ∷ es) =
+    if e == 0 then factor_texts names es else power_text name e ∷ factor_texts names es
 
 -- a term: its coefficient, left out where it is 1 before a monomial other than 1, and its factors
 abbrev pub term_text : List (List ℕ) → Term Monomial → List ℕ
@@ -46,14 +47,17 @@ polynomial_text names (t ∷ ts) = join_with_byte plus (map (term_text names) (t
 
 -- a row of a matrix with this many columns
 abbrev pub row_text : List (List ℕ) → ℕ → List (Term Place) → List ℕ
-row_text names columns ts = join_with_byte comma (map (λ i. polynomial_text names (entry i ts)) (range_with_len 0 columns))
+row_text names columns ts =
+    join_with_byte comma (map (λ i. polynomial_text names (entry i ts)) (range_with_len 0 columns))
 
 -- the rows in brackets; [] also where there are no columns
 abbrev pub rows_text : List (List ℕ) → ℕ → List Vector → List ℕ
 rows_text names zero rows = codes "[]"
-rows_text names (suc columns) rows = codes "[" ++ join_with_byte semicolon (map (λ v. row_text names (suc columns) v.terms) rows) ++ codes "]"
+rows_text names (suc columns) rows =
+    codes "[" ++ join_with_byte semicolon (map (λ v. row_text names (suc columns) v.terms) rows) ++ codes "]"
 
 -- a matrix: ROWS->COLUMNS ENTRIES, the degrees of its rows and of its columns first
 abbrev pub matrix_text : List (List ℕ) → Matrix → List ℕ
 matrix_text names m =
-    degrees_text (row_degrees m) ++ codes "->" ++ degrees_text m.target ++ codes " " ++ rows_text names (length m.target) m.rows
+    degrees_text (row_degrees m) ++ codes "->" ++ degrees_text m.target ++ codes " " ++ rows_text names
+    (length m.target) m.rows

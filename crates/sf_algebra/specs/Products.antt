@@ -17,4 +17,5 @@ LeavesOutOne = (a : Monomial) → product one a ≡ a
 
 -- the order is kept by products: two monomials compare as their products with a third one do
 abbrev pub KeptByProducts : Type 0
-KeptByProducts = (weights : Weights) (c a b : Monomial) → monomial_cmp weights (product c a) (product c b) ≡ monomial_cmp weights a b
+KeptByProducts =
+    (weights : Weights) (c a b : Monomial) → monomial_cmp weights (product c a) (product c b) ≡ monomial_cmp weights a b

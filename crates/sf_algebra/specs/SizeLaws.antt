@@ -5,4 +5,6 @@ use Rattle.sf_algebra.specs.Matrices.{Matrix, row_degrees}
 
 -- the numbers of its rows and columns, and the least and the greatest of its degrees
 abbrev pub IsDecidedByRange : Type 0
-IsDecidedByRange = (m : Matrix) (low high : ℤ) → AreFrom low high (row_degrees m ++ m.target) → HasSmallSize m ↔ Fits (length m.rows) (length m.target) low high
+IsDecidedByRange =
+    (m : Matrix) (low high : ℤ) → AreFrom low high (row_degrees m ++ m.target) → HasSmallSize m ↔ Fits (length m.rows)
+    (length m.target) low high

@@ -22,7 +22,8 @@ HasLastRows =
 -- rows of a matrix and the rows behind them are stacked to a part
 abbrev pub StacksParts : Type 0
 StacksParts =
-    (r0 r1 r2 c0 c1 : ℕ) (m : Matrix) → r0 ≤ r1 → r1 ≤ r2 → stacked (part r0 r1 c0 c1 m) (part r1 r2 c0 c1 m) ≡ part r0 r2 c0 c1 m
+    (r0 r1 r2 c0 c1 : ℕ) (m : Matrix) → r0 ≤ r1 → r1 ≤ r2 → stacked (part r0 r1 c0 c1 m)
+    (part r1 r2 c0 c1 m) ≡ part r0 r2 c0 c1 m
 
 -- three matrices may be stacked from either side
 abbrev pub HasAssociativeStacks : Type 0
@@ -30,7 +31,9 @@ HasAssociativeStacks = (a b c : Matrix) → stacked (stacked a b) c ≡ stacked 
 
 -- a stack times a matrix is the stack of the products
 abbrev pub MultipliesStacks : Type 0
-MultipliesStacks = (a b n : Matrix) → a.ring ≡ b.ring → matrix_product (stacked a b) n ≡ stacked (matrix_product a n) (matrix_product b n)
+MultipliesStacks =
+    (a b n : Matrix) → a.ring ≡ b.ring → matrix_product (stacked a b) n ≡ stacked (matrix_product a n)
+    (matrix_product b n)
 
 -- the negative of a stack is the stack of the negatives
 abbrev pub NegatesStacks : Type 0

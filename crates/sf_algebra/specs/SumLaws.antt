@@ -11,7 +11,8 @@ MeansCanonicalList {K} cmp = (p : ℕ) → 0 < p → (ts : List (Term K)) → Is
 
 -- the canonical list has the coefficients of the list of terms
 abbrev pub KeepsCoefficients : {K : Type 0} → (K → K → Ordering) → Type 0
-KeepsCoefficients {K} cmp = (p : ℕ) (ts : List (Term K)) (k : K) → coefficient_at cmp p k (normal cmp p ts) ≡ coefficient_at cmp p k ts
+KeepsCoefficients {K} cmp =
+    (p : ℕ) (ts : List (Term K)) (k : K) → coefficient_at cmp p k (normal cmp p ts) ≡ coefficient_at cmp p k ts
 
 -- canonical lists with equal coefficients are equal
 abbrev pub IsSetByCoefficients : {K : Type 0} → (K → K → Ordering) → Type 0
@@ -21,8 +22,10 @@ IsSetByCoefficients {K} cmp =
 
 -- the terms may stand in any order
 abbrev pub TakesAnyOrder : {K : Type 0} → (K → K → Ordering) → Type 0
-TakesAnyOrder {K} cmp = (p : ℕ) → 0 < p → (ts us : List (Term K)) → IsPermutation ts us → normal cmp p us ≡ normal cmp p ts
+TakesAnyOrder {K} cmp =
+    (p : ℕ) → 0 < p → (ts us : List (Term K)) → IsPermutation ts us → normal cmp p us ≡ normal cmp p ts
 
 -- two lists one after the other mean the sum of what each means
 abbrev pub MeansSumOfParts : {K : Type 0} → (K → K → Ordering) → Type 0
-MeansSumOfParts {K} cmp = (p : ℕ) → 0 < p → (ts us : List (Term K)) → normal cmp p (ts ++ us) ≡ add cmp p (normal cmp p ts) (normal cmp p us)
+MeansSumOfParts {K} cmp =
+    (p : ℕ) → 0 < p → (ts us : List (Term K)) → normal cmp p (ts ++ us) ≡ add cmp p (normal cmp p ts) (normal cmp p us)

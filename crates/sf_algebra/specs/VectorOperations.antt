@@ -28,4 +28,7 @@ vector_difference ring u v = record { degree = u.degree; terms = row_difference 
 
 -- the multiple, whose degree is higher by that of the factor's monomial
 abbrev pub vector_multiple : Ring → Term Monomial → Vector → Vector
-vector_multiple ring s u = record { degree = u.degree +ℤ pos (monomial_degree ring.weights s.at); terms = row_multiple ring s u.terms }
+vector_multiple ring s u = record {
+  degree = u.degree +ℤ pos (monomial_degree ring.weights s.at);
+  terms = row_multiple ring s u.terms;
+}

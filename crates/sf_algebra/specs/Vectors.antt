@@ -42,7 +42,8 @@ IsHomogeneous weights degrees d = AllByRecursion (IsTermOfDegree weights degrees
 
 -- a vector's polynomial at a position
 abbrev pub entry : ℕ → List (Term Place) → List (Term Monomial)
-entry i = filter_map (λ t. if t.at.position == i then Some (record { at = t.at.monomial; coefficient = t.coefficient }) else None)
+entry i =
+    filter_map (λ t. if t.at.position == i then Some (record { at = t.at.monomial; coefficient = t.coefficient }) else None)
 
 -- the degree of a row that is written without one: that of its first term, and 0 where there is none
 abbrev pub row_degree : Weights → List ℤ → List (Term Place) → ℤ

@@ -6,7 +6,8 @@ use Rattle.sf_algebra.proofs.Arithmetic.Primes.{no_factor, prime_from}
 use Rattle.sf_field.specs.Moduli.{moduli, is_modulus, EachModulus}
 
 -- a test that each number of a list passes is passed by a number that the list has
-pub test_from_list_all : (test : ℕ → Bool) (xs : List ℕ) (n : ℕ) → list_all test xs ≡ true → list_any (λ m. m == n) xs ≡ true → test n ≡ true
+pub test_from_list_all : (test : ℕ → Bool) (xs : List ℕ) (n : ℕ) → list_all test xs ≡ true
+    → list_any (λ m. m == n) xs ≡ true → test n ≡ true
 test_from_list_all test [] n all listed = cc
 test_from_list_all test (x ∷ xs) n all listed =
     let parts : (test x ≡ true) × (list_all test xs ≡ true) = and_parts (test x) (list_all test xs) all in

@@ -35,7 +35,10 @@ lcm_place lead i j = record { position = (lead i).position; monomial = lcm (lead
 
 -- the coefficient's place at row i whose image is the least common multiple of the leads of rows i and j
 abbrev pub pair_place : (ℕ → Place) → ℕ → ℕ → Place
-pair_place lead i j = record { position = i; monomial = quotient (lcm (lead i).monomial (lead j).monomial) (lead i).monomial }
+pair_place lead i j = record {
+  position = i;
+  monomial = quotient (lcm (lead i).monomial (lead j).monomial) (lead i).monomial;
+}
 
 -- the coefficients of the S-vector of rows i and j: what takes both leads to their least common multiple, and there to 0
 abbrev pub s_coefficients : ℕ → (ℕ → Place) → ℕ → ℕ → List (Term Place)
@@ -63,7 +66,8 @@ pub record ReducesToZero (ring : Ring) (rows : List Vector) (i j : ℕ) : Type 0
 pub record IsPairSyzygy (ring : Ring) (rows : List Vector) (i j : ℕ) (z : List (Term Place)) : Type 0 where
   pub steps : List (Term Place)
   pub below : AllByRecursion (HasMultipleBelow ring.weights rows (lcm_place (lead_at rows) i j)) steps
-  pub sum : row_sum ring z steps ≡ normal (place_cmp ring.weights) ring.modulus (s_coefficients ring.modulus (lead_at rows) i j)
+  pub sum : row_sum ring z steps
+      ≡ normal (place_cmp ring.weights) ring.modulus (s_coefficients ring.modulus (lead_at rows) i j)
   pub zero : row_combination ring rows z ≡ []
 
 -- a row without zero coefficients whose lead has the coefficient 1
@@ -83,7 +87,8 @@ pub record IsPair (rows : List Vector) (i j : ℕ) : Type 0 where
 
 -- each lead of a combination of the rows is divided by the lead of a row: the rows are a Gröbner basis of what they span
 abbrev pub IsGroebnerBasis : Ring → List Vector → Type 0
-IsGroebnerBasis ring rows = (c : List (Term Place)) → AllByRecursion (IsForRows rows) c → HasDividedLead rows (row_combination ring rows c)
+IsGroebnerBasis ring rows =
+    (c : List (Term Place)) → AllByRecursion (IsForRows rows) c → HasDividedLead rows (row_combination ring rows c)
 
 -- all pairs of rows reduce to zero
 abbrev pub HasReducingPairs : Ring → List Vector → Type 0

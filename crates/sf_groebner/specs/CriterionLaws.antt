@@ -15,7 +15,9 @@ use Rattle.sf_groebner.specs.Spans.{InSpan, IsCoefficients, IsSyzygy}
 
 -- Buchberger's criterion: rows are complete exactly where their pairs reduce to zero
 abbrev pub IsBuchbergersCriterion : Type 0
-IsBuchbergersCriterion = (ring : Ring) → IsRing ring → (rows : List Vector) → AllByRecursion (IsMonicRow ring) rows → IsGroebnerBasis ring rows ↔ HasReducingPairs ring rows
+IsBuchbergersCriterion =
+    (ring : Ring) → IsRing ring → (rows : List Vector) → AllByRecursion
+    (IsMonicRow ring) rows → IsGroebnerBasis ring rows ↔ HasReducingPairs ring rows
 
 -- up to a degree, homogeneous rows are complete where their pairs up to that degree reduce to zero
 abbrev pub IsCriterionUpToDegree : Type 0
@@ -28,11 +30,15 @@ IsCriterionUpToDegree =
 abbrev pub CancelsLeads : Type 0
 CancelsLeads =
     (ring : Ring) → IsRing ring → (rows : List Vector) → AllByRecursion (IsMonicRow ring) rows
-    → (i j : ℕ) → IsPair rows i j → AllByRecursion (λ (t : Term Place). place_cmp ring.weights t.at (lcm_place (lead_at rows) i j) ≡ Less) (s_vector ring rows i j)
+    → (i j : ℕ) → IsPair rows i j
+    → AllByRecursion (λ (t : Term Place). place_cmp ring.weights t.at (lcm_place (lead_at rows) i j) ≡ Less)
+    (s_vector ring rows i j)
 
 -- a pair may be taken in either order
 abbrev pub TakesEitherOrder : Type 0
-TakesEitherOrder = (ring : Ring) → IsRing ring → (rows : List Vector) (i j : ℕ) → HaveLeadsAtOnePosition rows i j → ReducesToZero ring rows i j → ReducesToZero ring rows j i
+TakesEitherOrder =
+    (ring : Ring) → IsRing ring → (rows : List Vector)
+    (i j : ℕ) → HaveLeadsAtOnePosition rows i j → ReducesToZero ring rows i j → ReducesToZero ring rows j i
 
 -- the chain criterion: a pair reduces to zero where the lead of a row divides its least common multiple, and its pairs with that row do
 abbrev pub DropsChains : Type 0
@@ -44,7 +50,8 @@ DropsChains =
 abbrev pub HasPairSyzygies : Type 0
 HasPairSyzygies =
     (m : Matrix) → IsRing m.ring → IsMatrix m → AllByRecursion (IsMonicRow m.ring) m.rows
-    → (i j : ℕ) → IsPair m.rows i j → ReducesToZero m.ring m.rows i j ↔ ((z : Vector) × IsSyzygy m z × IsPairSyzygy m.ring m.rows i j z.terms)
+    → (i j : ℕ) → IsPair m.rows i j
+    → ReducesToZero m.ring m.rows i j ↔ ((z : Vector) × IsSyzygy m z × IsPairSyzygy m.ring m.rows i j z.terms)
 
 -- Schreyer's theorem: syzygies of monic rows, one for each pair, span all syzygies
 abbrev pub SpansSyzygies : Type 0

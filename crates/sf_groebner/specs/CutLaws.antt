@@ -35,7 +35,8 @@ HasLiftsOfValues =
 -- of the reduced basis of the syzygies of a stack, the first blocks that aren't 0 are the reduced basis of all first blocks
 abbrev pub HasBasisOfFirstBlocks : Type 0
 HasBasisOfFirstBlocks =
-    (a b : Matrix) → IsRing a.ring → (basis : List Vector) → IsReducedBasis a.ring.weights (IsSyzygy (stacked a b)) basis
+    (a b : Matrix) → IsRing a.ring → (basis : List Vector) → IsReducedBasis a.ring.weights
+    (IsSyzygy (stacked a b)) basis
     → IsReducedBasis a.ring.weights (IsFirstBlock a b) (first_parts (length a.rows) basis)
 
 -- the first blocks are the relations of the first rows modulo the span of the others

@@ -31,7 +31,8 @@ HasSyzygyBasis = (m : Matrix) → IsOverField m.ring → IsMatrix m → (basis :
 
 -- there is an answer
 abbrev pub HasAnswer : Type 0
-HasAnswer = (limit : ℕ) (m : Matrix) → IsOverField m.ring → IsMatrix m → (answer : Option (List Vector)) × IsAnswer limit m answer
+HasAnswer =
+    (limit : ℕ) (m : Matrix) → IsOverField m.ring → IsMatrix m → (answer : Option (List Vector)) × IsAnswer limit m answer
 
 -- and no other one
 abbrev pub HasNoOtherAnswer : Type 0

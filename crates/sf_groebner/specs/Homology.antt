@@ -39,16 +39,21 @@ IsCycle out beyond c = IsRelation out (InSpan beyond) c
 -- the homology at a place: the cycles modulo the span of the map that arrives and the relations there
 abbrev pub IsHomology : ComplexPlace → Matrix → Matrix → Type 0
 IsHomology place generators relations =
-    IsPresentation place.here.ring place.here.target (IsCycle place.out place.beyond) (InSpan (stacked place.arriving place.here)) generators relations
+    IsPresentation place.here.ring place.here.target (IsCycle place.out place.beyond)
+    (InSpan (stacked place.arriving place.here)) generators relations
 
 -- the kernel of the map from the module with the relations `source` to that with the relations `target`
 abbrev pub IsKernel : Matrix → Matrix → Matrix → Matrix → Matrix → Type 0
-IsKernel source target map generators relations = IsPresentation source.ring source.target (IsCycle map target) (InSpan source) generators relations
+IsKernel source target map generators relations =
+    IsPresentation source.ring source.target (IsCycle map target) (InSpan source) generators relations
 
 -- its image: the span of the map and the relations `target`, modulo these
 abbrev pub IsImage : Matrix → Matrix → Matrix → Matrix → Type 0
-IsImage target map generators relations = IsPresentation target.ring target.target (InSpan (stacked map target)) (InSpan target) generators relations
+IsImage target map generators relations =
+    IsPresentation target.ring target.target (InSpan (stacked map target)) (InSpan target) generators relations
 
 -- its cokernel: all vectors modulo the span of the map and the relations `target`
 abbrev pub IsCokernel : Matrix → Matrix → Matrix → Matrix → Type 0
-IsCokernel target map generators relations = IsPresentation target.ring target.target (IsAny target.ring target.target) (InSpan (stacked map target)) generators relations
+IsCokernel target map generators relations =
+    IsPresentation target.ring target.target (IsAny target.ring target.target)
+    (InSpan (stacked map target)) generators relations

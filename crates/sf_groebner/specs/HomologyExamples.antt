@@ -24,7 +24,9 @@ HasNoKoszulHomology =
 
 -- the kernel of x and y is free, with that row as its generator
 abbrev pub HasKoszulKernel : Type 0
-HasKoszulKernel = IsKernel no_rows_between no_rows_below two_variables koszul (record { ring = plain 101; target = pos 2 ∷ []; rows = [] })
+HasKoszulKernel =
+    IsKernel no_rows_between no_rows_below two_variables koszul
+    (record { ring = plain 101; target = pos 2 ∷ []; rows = [] })
 
 -- modulo x and y there is one generator, and x and y are its relations
 abbrev pub HasKoszulCokernel : Type 0

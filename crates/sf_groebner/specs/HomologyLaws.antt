@@ -14,7 +14,8 @@ use Rattle.sf_groebner.specs.Spans.{InSpan, combined}
 abbrev pub HasIdentityChainMaps : Type 0
 HasIdentityChainMaps =
     (ring : Ring) → IsRing ring → 1 < ring.modulus → (a : ComplexPlace) → a.here.ring ≡ ring → a.beyond.ring ≡ ring → IsMapInto a.here a.arriving → IsMapInto a.beyond a.out → row_degrees a.out ≡ a.here.target
-    → AreChainMaps a a (identity ring (row_degrees a.arriving)) (identity ring a.here.target) (identity ring a.beyond.target)
+    → AreChainMaps a a (identity ring (row_degrees a.arriving)) (identity ring a.here.target)
+    (identity ring a.beyond.target)
 
 -- maps of complexes act on homology: cycles go to cycles and boundaries to boundaries
 abbrev pub ActsOnHomology : Type 0
@@ -32,13 +33,15 @@ ActsOnKernels =
 abbrev pub ActsOnImages : Type 0
 ActsOnImages =
     (target map other_target other_map left right : Matrix) → IsSquare map target other_map other_target left right
-    → ActsOnClasses (InSpan (stacked map target)) (InSpan target) (InSpan (stacked other_map other_target)) (InSpan other_target) right
+    → ActsOnClasses (InSpan (stacked map target)) (InSpan target) (InSpan (stacked other_map other_target))
+    (InSpan other_target) right
 
 -- and on cokernels
 abbrev pub ActsOnCokernels : Type 0
 ActsOnCokernels =
     (target map other_target other_map left right : Matrix) → IsSquare map target other_map other_target left right
-    → ActsOnClasses (IsAny target.ring target.target) (InSpan (stacked map target)) (IsAny other_target.ring other_target.target) (InSpan (stacked other_map other_target))
+    → ActsOnClasses (IsAny target.ring target.target) (InSpan (stacked map target))
+    (IsAny other_target.ring other_target.target) (InSpan (stacked other_map other_target))
     right
 
 -- a matrix that takes one span into another takes what is equal modulo the first to what is equal modulo the other

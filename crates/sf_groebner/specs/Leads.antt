@@ -10,7 +10,8 @@ PlaceDivides a b = (a.position ≡ b.position) × Divides a.monomial b.monomial
 
 -- the test of it
 abbrev pub divides : Monomial → Monomial → Bool
-divides a b = nat_le a.e1 b.e1 && (nat_le a.e2 b.e2 && (nat_le a.e3 b.e3 && (nat_le a.e4 b.e4 && (nat_le a.e5 b.e5 && nat_le a.e6 b.e6))))
+divides a b =
+    nat_le a.e1 b.e1 && (nat_le a.e2 b.e2 && (nat_le a.e3 b.e3 && (nat_le a.e4 b.e4 && (nat_le a.e5 b.e5 && nat_le a.e6 b.e6))))
 
 abbrev pub place_divides : Place → Place → Bool
 place_divides a b = (a.position == b.position) && divides a.monomial b.monomial

@@ -22,7 +22,8 @@ HasOneLift = (m : Matrix) → IsRing m.ring → (v c d : Vector) → IsLift m v 
 -- the first block of a lift over a stack is reduced by the first blocks of the syzygies
 abbrev pub HasReducedFirstBlocks : Type 0
 HasReducedFirstBlocks =
-    (a b : Matrix) → IsRing a.ring → (v c : Vector) → IsLift (stacked a b) v c → (basis : List Vector) → IsReducedBasis a.ring.weights (IsFirstBlock a b) basis
+    (a b : Matrix) → IsRing a.ring → (v c : Vector) → IsLift
+    (stacked a b) v c → (basis : List Vector) → IsReducedBasis a.ring.weights (IsFirstBlock a b) basis
     → IsReducedBy basis (part_terms 0 (length a.rows) c.terms)
 
 -- relations that are minimal modulo 0 span all relations
@@ -35,7 +36,8 @@ HasSpanningRelations =
 abbrev pub HasReducedCoordinates : Type 0
 HasReducedCoordinates =
     (generators base relations : Matrix) → IsOverField generators.ring → AreRelationsModulo generators base relations
-    → (v c : Vector) → IsLift (stacked generators base) v c → IsReducedByRelations relations (vector_part 0 (length generators.rows) c)
+    → (v c : Vector) → IsLift (stacked generators base) v c
+    → IsReducedByRelations relations (vector_part 0 (length generators.rows) c)
 
 -- vectors of one degree that are reduced by relations and differ by one of their span are equal
 abbrev pub HasOneReducedVector : Type 0

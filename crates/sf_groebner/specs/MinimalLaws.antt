@@ -29,7 +29,8 @@ HasOneMinimalSpan =
 abbrev pub HasOneMinimalRelations : Type 0
 HasOneMinimalRelations =
     (m base : Matrix) → IsRing m.ring → m.ring ≡ base.ring → IsMatrix base → (a b : List Vector)
-    → AreMinimal m.ring (IsRelation m (InSpan base)) IsZero a → AreMinimal m.ring (IsRelation m (InSpan base)) IsZero b → a ≡ b
+    → AreMinimal m.ring (IsRelation m (InSpan base)) IsZero a → AreMinimal m.ring (IsRelation m (InSpan base)) IsZero b
+    → a ≡ b
 
 -- each vector of the span is the sum of one of the other and a combination of the minimal generators
 abbrev pub GeneratesSpan : Type 0

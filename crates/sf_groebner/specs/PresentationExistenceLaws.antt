@@ -34,4 +34,5 @@ HasCokernel =
 
 -- a presented module has a resolution of each length
 abbrev pub HasResolution : Type 0
-HasResolution = (relations : Matrix) → IsOverField relations.ring → IsMatrix relations → (n : ℕ) → (steps : List Matrix) × (length steps ≡ n) × IsResolution relations steps
+HasResolution =
+    (relations : Matrix) → IsOverField relations.ring → IsMatrix relations → (n : ℕ) → (steps : List Matrix) × (length steps ≡ n) × IsResolution relations steps

@@ -12,18 +12,21 @@ use Rattle.sf_groebner.specs.Resolutions.{IsResolution}
 abbrev pub HasOneHomology : Type 0
 HasOneHomology =
     (place : ComplexPlace) → IsRing place.here.ring → place.arriving.ring ≡ place.here.ring → place.out.ring ≡ place.here.ring → place.beyond.ring ≡ place.here.ring
-    → IsMatrix (stacked place.arriving place.here) → IsMatrix place.beyond → (g r h s : Matrix) → IsHomology place g r → IsHomology place h s → (g ≡ h) × (r ≡ s)
+    → IsMatrix (stacked place.arriving place.here) → IsMatrix place.beyond → (g r h s : Matrix) → IsHomology place g r
+    → IsHomology place h s → (g ≡ h) × (r ≡ s)
 
 -- a map has at most one kernel
 abbrev pub HasOneKernel : Type 0
 HasOneKernel =
     (source target map : Matrix) → IsRing source.ring → map.ring ≡ source.ring → target.ring ≡ source.ring
-    → IsMatrix source → IsMatrix target → (g r h s : Matrix) → IsKernel source target map g r → IsKernel source target map h s → (g ≡ h) × (r ≡ s)
+    → IsMatrix source → IsMatrix target → (g r h s : Matrix) → IsKernel source target map g r
+    → IsKernel source target map h s → (g ≡ h) × (r ≡ s)
 
 -- one image
 abbrev pub HasOneImage : Type 0
 HasOneImage =
-    (target map : Matrix) → IsRing target.ring → map.ring ≡ target.ring → IsMatrix (stacked map target) → IsMatrix target
+    (target map : Matrix) → IsRing target.ring → map.ring ≡ target.ring → IsMatrix
+    (stacked map target) → IsMatrix target
     → (g r h s : Matrix) → IsImage target map g r → IsImage target map h s → (g ≡ h) × (r ≡ s)
 
 -- and one cokernel

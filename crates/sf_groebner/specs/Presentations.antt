@@ -18,7 +18,8 @@ pub record IsRelation (generators : Matrix) (B : Vector → Type 0) (c : Vector)
   pub inside : B (combined generators c)
 
 -- generators and relations of N modulo B, a module and a part of it in a free module
-pub record IsPresentation (ring : Ring) (target : List ℤ) (N B : Vector → Type 0) (generators relations : Matrix) : Type 0 where
+pub record IsPresentation (ring : Ring) (target : List ℤ) (N B : Vector → Type 0)
+    (generators relations : Matrix) : Type 0 where
   pub generators_ring : generators.ring ≡ ring
   pub generators_target : generators.target ≡ target
   pub generators_minimal : AreMinimal ring N B generators.rows

@@ -22,7 +22,8 @@ HasCompleteLeads vs = (v : Vector) → InSpan quadrics v → HasDividedLead vs v
 
 -- x^2 + x y + y^2 has the lead x y of a later row
 abbrev pub later_lead_in_tail : List Vector
-later_lead_in_tail = vector 2 (term 1 0 (2 ∷ []) ∷ term 1 0 (1 ∷ 1 ∷ []) ∷ term 1 0 (0 ∷ 2 ∷ []) ∷ []) ∷ second_row ∷ third_row ∷ []
+later_lead_in_tail =
+    vector 2 (term 1 0 (2 ∷ []) ∷ term 1 0 (1 ∷ 1 ∷ []) ∷ term 1 0 (0 ∷ 2 ∷ []) ∷ []) ∷ second_row ∷ third_row ∷ []
 
 abbrev pub RefusesLaterLeadInTail : Type 0
 RefusesLaterLeadInTail =
@@ -41,28 +42,32 @@ abbrev pub outside_rows : List Vector
 outside_rows = first_row ∷ vector 2 (term 1 0 (1 ∷ 1 ∷ []) ∷ []) ∷ vector 2 (term 1 0 (0 ∷ 2 ∷ []) ∷ []) ∷ []
 
 abbrev pub RefusesOutsideRows : Type 0
-RefusesOutsideRows = IsRefused outside_rows × AreMonic outside_rows × HasCompleteLeads outside_rows × IsApart outside_rows × IsSorted ones outside_rows
+RefusesOutsideRows =
+    IsRefused outside_rows × AreMonic outside_rows × HasCompleteLeads outside_rows × IsApart outside_rows × IsSorted ones outside_rows
 
 -- a coefficient 2 leads the second row
 abbrev pub doubled_row : List Vector
 doubled_row = first_row ∷ vector 2 (term 2 0 (1 ∷ 1 ∷ []) ∷ term 2 0 (0 ∷ 2 ∷ []) ∷ []) ∷ third_row ∷ []
 
 abbrev pub RefusesDoubledRow : Type 0
-RefusesDoubledRow = IsRefused doubled_row × IsInside doubled_row × HasCompleteLeads doubled_row × IsApart doubled_row × IsSorted ones doubled_row
+RefusesDoubledRow =
+    IsRefused doubled_row × IsInside doubled_row × HasCompleteLeads doubled_row × IsApart doubled_row × IsSorted ones doubled_row
 
 -- a row is 0
 abbrev pub with_zero : List Vector
 with_zero = first_row ∷ second_row ∷ third_row ∷ vector 4 [] ∷ []
 
 abbrev pub RefusesZero : Type 0
-RefusesZero = IsRefused with_zero × IsInside with_zero × HasCompleteLeads with_zero × IsApart with_zero × IsSorted ones with_zero
+RefusesZero =
+    IsRefused with_zero × IsInside with_zero × HasCompleteLeads with_zero × IsApart with_zero × IsSorted ones with_zero
 
 -- y^3 is wanting
 abbrev pub without_third_row : List Vector
 without_third_row = first_row ∷ second_row ∷ []
 
 abbrev pub RefusesWithoutThirdRow : Type 0
-RefusesWithoutThirdRow = IsRefused without_third_row × IsInside without_third_row × AreMonic without_third_row × IsApart without_third_row × IsSorted ones without_third_row
+RefusesWithoutThirdRow =
+    IsRefused without_third_row × IsInside without_third_row × AreMonic without_third_row × IsApart without_third_row × IsSorted ones without_third_row
 
 -- in one degree the smaller lead comes first
 abbrev pub smaller_lead_first : List Vector

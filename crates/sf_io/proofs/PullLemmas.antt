@@ -18,7 +18,8 @@ module _ {S : Type 0} (left : S → Option (List ℕ)) (given : S → ℕ) where
   -- before the first pull
   pub Gives-nil : (a : S) (room : List ℕ) → Gives left given a a (take 0 room)
   Gives-nil a room =
-      let counted : RoseBy 0 (given a) (given a) = record { least = omega arith; most = omega arith; exact = λ _. omega arith } in
+      let counted : RoseBy 0 (given a) (given a) =
+      record { least = omega arith; most = omega arith; exact = λ _. omega arith } in
       record { next = Consumes-nil (left a); counted = counted }
 
   -- one pull more, which put n bytes after the first i

@@ -40,8 +40,10 @@ TermsFit ts us = AllByRecursion (λ (t : Term Place). HasRoom t.at.monomial us) 
 
 -- the positions of tensor products with terms over n columns have room
 abbrev pub PositionsFit : ℕ → List (Term Place) → List (Term Place) → Type 0
-PositionsFit n ts us = AllByRecursion (λ (t : Term Place). (t.at.position * n < 2 ^ 64) × AllByRecursion (λ (u : Term Place). t.at.position * n + u.at.position < 2 ^ 64) us) ts
+PositionsFit n ts us =
+    AllByRecursion (λ (t : Term Place). (t.at.position * n < 2 ^ 64) × AllByRecursion (λ (u : Term Place). t.at.position * n + u.at.position < 2 ^ 64) us) ts
 
 -- the products of each term of each row with each term of each of the others have room
 abbrev pub KroneckerFits : List Vector → List Vector → Type 0
-KroneckerFits rows others = AllByRecursion (λ (v : Vector). AllByRecursion (λ (w : Vector). TermsFit v.terms w.terms) others) rows
+KroneckerFits rows others =
+    AllByRecursion (λ (v : Vector). AllByRecursion (λ (w : Vector). TermsFit v.terms w.terms) others) rows

@@ -15,7 +15,8 @@ module _ {X : Type 0} (p : X → Bool) where
   count_by-yes : (x : X) (xs : List X) → p x ≡ true → count_by p (x ∷ xs) ≡ 1 + count_by p xs
   count_by-yes x xs passes = count_by-cons x xs ∙ ap (λ b. one_if b + count_by p xs) passes
 
-  pub same_choice : (xs ys : List X) (x y : X) (us vs : List X) → xs ++ x ∷ us ≡ ys ++ y ∷ vs → p x ≡ true → p y ≡ true → count_by p xs ≡ count_by p ys → (xs ≡ ys) × (x ≡ y) × (us ≡ vs)
+  pub same_choice : (xs ys : List X) (x y : X) (us vs : List X) → xs ++ x ∷ us ≡ ys ++ y ∷ vs → p x ≡ true → p y ≡ true
+      → count_by p xs ≡ count_by p ys → (xs ≡ ys) × (x ≡ y) × (us ≡ vs)
   same_choice [] [] x y us vs e h k n = (refl, cc, cc)
   same_choice [] (z ∷ ys) x y us vs e h k n =
       let same : x ≡ z = cc in
@@ -34,7 +35,8 @@ module _ {X : Type 0} (p : X → Bool) where
       (λ i. same i ∷ tail.0 i, tail.1, tail.2)
 
 -- tests that agree at each item count the same
-pub count_by-agree : {X : Type 0} (p q : X → Bool) (xs : List X) → All (λ x. p x ≡ q x) xs → count_by p xs ≡ count_by q xs
+pub count_by-agree : {X : Type 0} (p q : X → Bool) (xs : List X) → All (λ x. p x ≡ q x) xs
+    → count_by p xs ≡ count_by q xs
 count_by-agree p q [] each = refl
 count_by-agree p q (x ∷ xs) each =
     let first = All-head (λ y. p y ≡ q y) x xs each in

@@ -12,17 +12,20 @@ use Rattle.sf_pairs.proofs.Choices.{count_by-agree}
 Decides-int_le : (a b : ℤ) → Decides (int_le a b) (a ≤ℤ b)
 Decides-int_le a b = (λ h. grind (arith, ints), λ h. grind (arith, ints))
 
-Decides-is_least : (queue : List QueuedPair) (e : QueuedPair) → Decides (is_least queue e) (All (λ (f : QueuedPair). e.degree ≤ℤ f.degree) queue)
+Decides-is_least : (queue : List QueuedPair) (e : QueuedPair)
+    → Decides (is_least queue e) (All (λ (f : QueuedPair). e.degree ≤ℤ f.degree) queue)
 Decides-is_least queue e =
     Decides-by_and (λ (f : QueuedPair). int_le e.degree f.degree) (λ (f : QueuedPair). e.degree ≤ℤ f.degree)
-    (list_all (λ (f : QueuedPair). int_le e.degree f.degree)) (λ f. Decides-int_le e.degree f.degree) refl (λ _ _. refl) queue
+    (list_all (λ (f : QueuedPair). int_le e.degree f.degree)) (λ f. Decides-int_le e.degree f.degree) refl
+    (λ _ _. refl) queue
 
 module _ (d : ℤ) (queue : List QueuedPair) (least : HasLeast d queue) where
   -- a degree that is above none is at most the least
   lowest : (e : QueuedPair) → d ≤ℤ e.degree → All (λ (f : QueuedPair). e.degree ≤ℤ f.degree) queue → e.degree ≡ d
   lowest e above each =
       let some = least.0 in
-      let below : e.degree ≤ℤ some.1.degree = subst (λ (f : QueuedPair). e.degree ≤ℤ f.degree) some.3 (each some.0 some.1 some.2) in
+      let below : e.degree ≤ℤ some.1.degree =
+      subst (λ (f : QueuedPair). e.degree ≤ℤ f.degree) some.3 (each some.0 some.1 some.2) in
       omega (arith, ints, below, above, some.4)
 
   highest : (e : QueuedPair) → e.degree ≡ d → All (λ (f : QueuedPair). e.degree ≤ℤ f.degree) queue
@@ -30,10 +33,12 @@ module _ (d : ℤ) (queue : List QueuedPair) (least : HasLeast d queue) where
 
   is_least-HasLeast : (e : QueuedPair) → d ≤ℤ e.degree → is_least queue e ≡ has_degree d e
   is_least-HasLeast e above =
-      same_from_decides _ _ (Decides-like (is_least queue e) (lowest e above) (highest e) (Decides-is_least queue e)) (Decides-int_eq e.degree d)
+      same_from_decides _ _ (Decides-like (is_least queue e) (lowest e above) (highest e) (Decides-is_least queue e))
+      (Decides-int_eq e.degree d)
 
   -- those of least degree are counted by their degree
-  pub count_least_in-HasLeast : (part : List QueuedPair) → All (λ (e : QueuedPair). d ≤ℤ e.degree) part → count_least_in queue part ≡ count_by (has_degree d) part
+  pub count_least_in-HasLeast : (part : List QueuedPair) → All (λ (e : QueuedPair). d ≤ℤ e.degree) part
+      → count_least_in queue part ≡ count_by (has_degree d) part
   count_least_in-HasLeast part above =
       count_by-agree (is_least queue) (has_degree d) part
       (All-weaker (λ (e : QueuedPair). d ≤ℤ e.degree) (λ e. is_least queue e ≡ has_degree d e) is_least-HasLeast part above)
@@ -42,13 +47,19 @@ module _ (d : ℤ) (queue : List QueuedPair) (least : HasLeast d queue) where
   count_least-HasLeast = count_least_in-HasLeast queue least.1
 
   -- the pair that stands at a place is taken
-  pub IsTaken-place : (at place : ℕ) (e : QueuedPair) → place < length queue → e ≡ slice_index_or queue place e → e.degree ≡ d → count_by (has_degree d) (take place queue) ≡ at → IsTaken at queue e.first e.second (remove queue place)
+  pub IsTaken-place : (at place : ℕ) (e : QueuedPair) → place < length queue → e ≡ slice_index_or queue place e
+      → e.degree ≡ d → count_by (has_degree d) (take place queue) ≡ at
+      → IsTaken at queue e.first e.second (remove queue place)
   IsTaken-place at place e below there same count = record {
     degree = e.degree;
     before = take place queue;
     after = drop (suc place) queue;
-    whole = split_at queue place e below ∙ ap (λ (f : QueuedPair). take place queue ++ f ∷ drop (suc place) queue) (sym there);
+    whole =
+        split_at queue place e below
+        ∙ ap (λ (f : QueuedPair). take place queue ++ f ∷ drop (suc place) queue) (sym there);
     rest = refl;
     least = (Decides-is_least queue e).1 (highest e same);
-    place = count_least_in-HasLeast (take place queue) (All-take (λ (f : QueuedPair). d ≤ℤ f.degree) place queue least.1) ∙ count;
+    place =
+        count_least_in-HasLeast (take place queue) (All-take (λ (f : QueuedPair). d ≤ℤ f.degree) place queue least.1)
+        ∙ count;
   }

@@ -23,26 +23,35 @@ exponent_sum-Less a b less =
     omega arith
 
 -- each term has at most the sum of exponents of the first
-pub IsBoundedBy-lead : (t : Term Monomial) (ts : List (Term Monomial)) → IsDescending (monomial_cmp ones) (t ∷ ts) → IsBoundedBy (exponent_sum t.at) (t ∷ ts)
+pub IsBoundedBy-lead : (t : Term Monomial) (ts : List (Term Monomial)) → IsDescending (monomial_cmp ones) (t ∷ ts)
+    → IsBoundedBy (exponent_sum t.at) (t ∷ ts)
 IsBoundedBy-lead t ts h = (omega arith, AllByRecursion-weaken _ _ (λ u less. exponent_sum-Less u.at t.at less) ts h.0)
 
 -- a multiple has room where its greatest term has
-pub HasRoom-MultipleFits : (a : Monomial) (ts : List (Term Monomial)) → IsDescending (monomial_cmp ones) ts → MultipleFits a ts → HasRoom a ts
+pub HasRoom-MultipleFits : (a : Monomial) (ts : List (Term Monomial)) → IsDescending (monomial_cmp ones) ts
+    → MultipleFits a ts → HasRoom a ts
 HasRoom-MultipleFits a [] h fits = tt
 HasRoom-MultipleFits a (t ∷ ts) h fits =
-    AllByRecursion-weaken (λ (u : Term Monomial). exponent_sum u.at ≤ exponent_sum t.at) (λ (u : Term Monomial). exponent_sum a + exponent_sum u.at ≤ GREATEST_SUM)
+    AllByRecursion-weaken (λ (u : Term Monomial). exponent_sum u.at ≤ exponent_sum t.at)
+    (λ (u : Term Monomial). exponent_sum a + exponent_sum u.at ≤ GREATEST_SUM)
     (λ u below. omega arith) (t ∷ ts) (IsBoundedBy-lead t ts h)
 
 -- a product too
-pub HasRoom-ProductFits : (us vs : List (Term Monomial)) → IsDescending (monomial_cmp ones) us → IsDescending (monomial_cmp ones) vs → ProductFits us vs → AllByRecursion (λ (t : Term Monomial). HasRoom t.at vs) us
+pub HasRoom-ProductFits : (us vs : List (Term Monomial)) → IsDescending (monomial_cmp ones) us
+    → IsDescending (monomial_cmp ones) vs → ProductFits us vs
+    → AllByRecursion (λ (t : Term Monomial). HasRoom t.at vs) us
 HasRoom-ProductFits [] vs h k fits = tt
-HasRoom-ProductFits (t ∷ ts) [] h k fits = AllByRecursion-weaken (λ (u : Term Monomial). exponent_sum u.at ≤ exponent_sum t.at) (λ (u : Term Monomial). HasRoom u.at []) (λ u below. tt) (t ∷ ts) (IsBoundedBy-lead t ts h)
+HasRoom-ProductFits (t ∷ ts) [] h k fits =
+    AllByRecursion-weaken (λ (u : Term Monomial). exponent_sum u.at ≤ exponent_sum t.at)
+    (λ (u : Term Monomial). HasRoom u.at []) (λ u below. tt) (t ∷ ts) (IsBoundedBy-lead t ts h)
 HasRoom-ProductFits (t ∷ ts) (v ∷ vs) h k fits =
-    AllByRecursion-weaken (λ (u : Term Monomial). exponent_sum u.at ≤ exponent_sum t.at) (λ (u : Term Monomial). HasRoom u.at (v ∷ vs))
+    AllByRecursion-weaken (λ (u : Term Monomial). exponent_sum u.at ≤ exponent_sum t.at)
+    (λ (u : Term Monomial). HasRoom u.at (v ∷ vs))
     (λ u below. HasRoom-MultipleFits u.at (v ∷ vs) k (omega arith)) (t ∷ ts) (IsBoundedBy-lead t ts h)
 
 -- the same by the monomial of the greatest term
-pub IsBoundedBy-monomial : (ts : List (Term Monomial)) (a : Monomial) (c d : ℕ) → IsDescending (monomial_cmp ones) ts → Some (a, c) ≡ lead ts → d ≡ exponent_sum a → IsBoundedBy d ts
+pub IsBoundedBy-monomial : (ts : List (Term Monomial)) (a : Monomial) (c d : ℕ) → IsDescending (monomial_cmp ones) ts
+    → Some (a, c) ≡ lead ts → d ≡ exponent_sum a → IsBoundedBy d ts
 IsBoundedBy-monomial [] a c d h is sum = cc
 IsBoundedBy-monomial (t ∷ ts) a c d h is sum =
     let pair : (a, c) ≡ (t.at, t.coefficient) = cc in

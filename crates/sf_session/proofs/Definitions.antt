@@ -45,15 +45,18 @@ module _ (found : Option Ring) (ring : Ring) (modules : List (List ℕ × Matrix
   in_ring : defined ≡ unless_refused placed (option_map Unknown (first_unknown ring.names rows) ∷ from_taken)
   in_ring = ap (λ (r : Option Ring). definition r modules name degrees rows) given
 
-  pub definition-unknown : (unknown : List ℕ) → first_unknown ring.names rows ≡ Some unknown → defined ≡ Err (Unknown unknown)
-  definition-unknown unknown e = in_ring ∙ refused_first placed _ from_taken (Unknown unknown) (ap (option_map Unknown) e)
+  pub definition-unknown : (unknown : List ℕ) → first_unknown ring.names rows ≡ Some unknown
+      → defined ≡ Err (Unknown unknown)
+  definition-unknown unknown e =
+      in_ring ∙ refused_first placed _ from_taken (Unknown unknown) (ap (option_map Unknown) e)
 
   module _ (known : first_unknown ring.names rows ≡ None) where
     past_unknown : defined ≡ unless_refused placed from_taken
     past_unknown = in_ring ∙ passed_first placed _ from_taken (ap (option_map Unknown) known)
 
     pub definition-taken : is_some (module_named name modules) ≡ true → defined ≡ Err (Taken name)
-    definition-taken e = past_unknown ∙ refused_first placed _ from_shape (Taken name) (ap (λ b. refused_if b (Taken name)) e)
+    definition-taken e =
+        past_unknown ∙ refused_first placed _ from_shape (Taken name) (ap (λ b. refused_if b (Taken name)) e)
 
     module _ (new : is_some (module_named name modules) ≡ false) where
       past_taken : defined ≡ unless_refused placed from_shape

@@ -28,7 +28,8 @@ pub ten_pow-more : (i : ℕ) → 10 ^ (i + 1) ≡ 10 * 10 ^ i
 ten_pow-more i = rw add-one (pow-succ' 10 i)
 
 -- each byte of a number is a digit, and there are few enough
-pub are_digits-at : (most : ℕ) (word : List ℕ) → are_digits most word ≡ true → length word ≤ most × ((i : ℕ) → i < length word → is_ascii_digit (get_or word i 0) ≡ true)
+pub are_digits-at : (most : ℕ) (word : List ℕ) → are_digits most word ≡ true
+    → length word ≤ most × ((i : ℕ) → i < length word → is_ascii_digit (get_or word i 0) ≡ true)
 are_digits-at most word e =
     let filled = &&-true (nat_lt 0 (length word)) (nat_le (length word) most && list_all is_ascii_digit word) e in
     let parts = &&-true (nat_le (length word) most) (list_all is_ascii_digit word) filled.1 in

@@ -7,7 +7,8 @@ use Rattle.std.proofs.lemmas.Bool.Decides.{nat_tests}
 use Rattle.sf_session.specs.Joins.{separator_after, joined_after}
 
 -- behind a separator, the items as they stand with none before
-pub joined_after-true : (c : ℕ) (x : List ℕ) (xs : List (List ℕ)) → joined_after true c (x ∷ xs) ≡ c ∷ join_with_byte c (x ∷ xs)
+pub joined_after-true : (c : ℕ) (x : List ℕ) (xs : List (List ℕ))
+    → joined_after true c (x ∷ xs) ≡ c ∷ join_with_byte c (x ∷ xs)
 joined_after-true c x [] = append-nil (c ∷ x)
 joined_after-true c x (y ∷ ys) = ap (λ zs. c ∷ x ++ zs) (joined_after-true c y ys)
 
@@ -40,14 +41,18 @@ module _ {X : Type 0} (f : X → List ℕ) (c : ℕ) (xs : List X) where
   joined_from-end i h = at_drop_all (λ ys. joined_after (ltb 0 i) c (map f ys)) xs i h
 
   -- one item
-  pub joined_from-step : (i : ℕ) (x : X) → slice_get xs i ≡ Some x → joined_from f c xs i ≡ separator_after (ltb 0 i) c ++ f x ++ joined_from f c xs (i + 1)
+  pub joined_from-step : (i : ℕ) (x : X) → slice_get xs i ≡ Some x
+      → joined_from f c xs i ≡ separator_after (ltb 0 i) c ++ f x ++ joined_from f c xs (i + 1)
   joined_from-step i x e =
       at_drop_more (λ ys. joined_after (ltb 0 i) c (map f ys)) xs i x (slice_get_within xs i x e)
-      ∙ ap (λ y. separator_after (ltb 0 i) c ++ f y ++ joined_after true c (map f (drop (i + 1) xs))) (get_or_from_slice_get xs i x x e)
+      ∙ ap (λ y. separator_after (ltb 0 i) c ++ f y ++ joined_after true c (map f (drop (i + 1) xs)))
+      (get_or_from_slice_get xs i x x e)
       ∙ ap (λ b. separator_after (ltb 0 i) c ++ f x ++ joined_after b c (map f (drop (i + 1) xs))) (positive i)
 
   -- what is written and what is left make the whole text, before an item is written and behind it
-  pub joined_from_more : (whole text next : List ℕ) (i : ℕ) (x : X) → text ++ joined_from f c xs i ≡ whole → slice_get xs i ≡ Some x
+  pub joined_from_more : (whole text next : List ℕ) (i : ℕ) (x : X) → text ++ joined_from f c xs i ≡ whole
+      → slice_get xs i ≡ Some x
       → next ≡ text ++ separator_after (ltb 0 i) c ++ f x → next ++ joined_from f c xs (i + 1) ≡ whole
   joined_from_more whole text next i x so_far e now =
-      ap (λ t. t ++ joined_from f c xs (i + 1)) now ∙ written text _ (f x) _ ∙ ap (λ t. text ++ t) (sym (joined_from-step i x e)) ∙ so_far
+      ap (λ t. t ++ joined_from f c xs (i + 1)) now ∙ written text _ (f x) _
+      ∙ ap (λ t. text ++ t) (sym (joined_from-step i x e)) ∙ so_far

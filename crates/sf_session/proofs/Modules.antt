@@ -11,7 +11,8 @@ None-from_is_none None e = refl
 None-from_is_none (Some x) e = cc
 
 pub insert_entry-unknown : {S : Type 0} (modules : IndexMap (List ℕ) Matrix S) (name : List ℕ) (relations : Matrix)
-    → is_none (module_named name modules.entries) ≡ true → insert_entry bytes_eq modules.entries name relations ≡ modules.entries ++ (name, relations) ∷ []
+    → is_none (module_named name modules.entries) ≡ true
+    → insert_entry bytes_eq modules.entries name relations ≡ modules.entries ++ (name, relations) ∷ []
 insert_entry-unknown modules name relations e =
     insert_entry-new bytes_eq modules name relations (None-from_is_none (module_named name modules.entries) e)
 

@@ -17,11 +17,13 @@ letter-ascii b e = grind (arith, nat_tests)
 IsAscii-name_bytes : (bs : List ℕ) → list_all is_name_byte bs ≡ true → IsAscii bs
 IsAscii-name_bytes [] e i = omega arith
 IsAscii-name_bytes (b ∷ bs) e zero = is_name_byte-ascii b (&&-true (is_name_byte b) (list_all is_name_byte bs) e).0
-IsAscii-name_bytes (b ∷ bs) e (suc i) = IsAscii-name_bytes bs (&&-true (is_name_byte b) (list_all is_name_byte bs) e).1 i
+IsAscii-name_bytes (b ∷ bs) e (suc i) =
+    IsAscii-name_bytes bs (&&-true (is_name_byte b) (list_all is_name_byte bs) e).1 i
 
 pub IsAscii-name : (word : List ℕ) → is_name word ≡ true → IsAscii word
 IsAscii-name [] e i = omega arith
-IsAscii-name (b ∷ bs) e zero = letter-ascii b (&&-true (is_ascii_alphabetic b) (nat_le (length bs) 31 && list_all is_name_byte bs) e).0
+IsAscii-name (b ∷ bs) e zero =
+    letter-ascii b (&&-true (is_ascii_alphabetic b) (nat_le (length bs) 31 && list_all is_name_byte bs) e).0
 IsAscii-name (b ∷ bs) e (suc i) =
     let others = (&&-true (is_ascii_alphabetic b) (nat_le (length bs) 31 && list_all is_name_byte bs) e).1 in
     IsAscii-name_bytes bs (&&-true (nat_le (length bs) 31) (list_all is_name_byte bs) others).1 i

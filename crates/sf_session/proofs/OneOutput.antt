@@ -40,7 +40,8 @@ one_output script =
 pub Answers-append : (old mid new : State) (lines others : List (List ℕ)) (out more : List ℕ)
     → Answers old lines out mid → Answers mid others more new → Answers old (lines ++ others) (out ++ more) new
 Answers-append old mid new [] others out more h k =
-    subst (λ (s : State). Answers s others (out ++ more) new) h.1 (subst (λ o. Answers mid others (o ++ more) new) (sym h.0) k)
+    subst (λ (s : State). Answers s others (out ++ more) new) h.1
+    (subst (λ o. Answers mid others (o ++ more) new) (sym h.0) k)
 Answers-append old mid new (line ∷ lines) others out more h k =
     (h.0, h.1 ++ more, h.2, h.3, Answers-append h.2 mid new lines others h.1 more h.4 k, ap (λ o. o ++ more) h.5 ∙ append_assoc h.0 h.1 more)
 
@@ -50,5 +51,7 @@ front_begins_output script front out h k =
     let rest = IsOne-Answers cut.2 cut.1 in
     let whole = Answers-append start cut.2 rest.state cut.0 cut.1 (front ++ h.0) rest.reply cut.4 rest.met in
     let all = IsOne-Answers start (script_lines script) in
-    let ours = all.only ((front ++ h.0) ++ rest.reply) rest.state (subst (λ ls. Answers start ls ((front ++ h.0) ++ rest.reply) rest.state) (sym cut.3) whole) in
+    let ours =
+    all.only ((front ++ h.0) ++ rest.reply) rest.state
+    (subst (λ ls. Answers start ls ((front ++ h.0) ++ rest.reply) rest.state) (sym cut.3) whole) in
     (h.0 ++ rest.reply, (all.only out k.0 k.1).0 ∙ sym ours.0 ∙ append_assoc front h.0 rest.reply)

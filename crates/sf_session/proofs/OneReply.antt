@@ -23,16 +23,19 @@ pub record IsOne (P : List ℕ → State → Type 0) : Type 0 where
 pub IsOne-Gives : (text : List ℕ) (after : State) → IsOne (Gives text after)
 IsOne-Gives text after = record { reply = text; state = after; met = (refl, refl); only = λ other new h. h }
 
-pub IsOne-MatchBool : (b : Bool) {P Q : List ℕ → State → Type 0} → IsOne P → IsOne Q → IsOne (λ reply new. MatchBool b (P reply new) (Q reply new))
+pub IsOne-MatchBool : (b : Bool) {P Q : List ℕ → State → Type 0} → IsOne P → IsOne Q
+    → IsOne (λ reply new. MatchBool b (P reply new) (Q reply new))
 IsOne-MatchBool true p q = p
 IsOne-MatchBool false p q = q
 
-pub IsOne-MatchOption : {X : Type 0} (o : Option X) {P : List ℕ → State → Type 0} {Q : X → List ℕ → State → Type 0} → IsOne P → ((x : X) → IsOne (Q x))
+pub IsOne-MatchOption : {X : Type 0} (o : Option X) {P : List ℕ → State → Type 0} {Q : X → List ℕ → State → Type 0}
+    → IsOne P → ((x : X) → IsOne (Q x))
     → IsOne (λ reply new. MatchOption o (P reply new) (λ x. Q x reply new))
 IsOne-MatchOption None p q = p
 IsOne-MatchOption (Some x) p q = q x
 
-pub IsOne-MatchResult : {X E : Type 0} (r : Result X E) {P : X → List ℕ → State → Type 0} {Q : E → List ℕ → State → Type 0}
+pub IsOne-MatchResult : {X E : Type 0}
+    (r : Result X E) {P : X → List ℕ → State → Type 0} {Q : E → List ℕ → State → Type 0}
     → ((x : X) → IsOne (P x)) → ((e : E) → IsOne (Q e))
     → IsOne (λ reply new. MatchResult r (λ x. P x reply new) (λ e. Q e reply new))
 IsOne-MatchResult (Ok x) p q = p x
@@ -43,7 +46,8 @@ refused refusal old = IsOne-Gives (refusal_text refusal) old
 
 pub IsOne-Carried : (command : Command) (old : State) → IsOne (Carried command old)
 IsOne-Carried (Spectral version) old = IsOne-MatchBool (opens old.heads version) (IsOne-Gives _ _) (refused Heading old)
-IsOne-Carried (Ring modulus names) old = IsOne-MatchBool (enters old.heads modulus names) (IsOne-Gives _ _) (refused Heading old)
+IsOne-Carried (Ring modulus names) old =
+    IsOne-MatchBool (enters old.heads modulus names) (IsOne-Gives _ _) (refused Heading old)
 IsOne-Carried (Module name degrees relations) old =
     IsOne-MatchResult (definition (ring_of old.heads) old.modules name degrees relations.rows)
     (λ placed. IsOne-Gives _ _)

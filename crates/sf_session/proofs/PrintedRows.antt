@@ -28,7 +28,8 @@ module _ (column : ℕ) (ts : List (Term Place)) (k : ℕ) where
     rest : drop k ts ≡ t ∷ drop (k + 1) ts
     rest = drop-slice_get ts k t read
 
-    pub entry-drop : t.at.position ≡ column → entry column (drop k ts) ≡ without_position t ∷ entry column (drop (k + 1) ts)
+    pub entry-drop : t.at.position ≡ column
+        → entry column (drop k ts) ≡ without_position t ∷ entry column (drop (k + 1) ts)
     entry-drop h = ap (entry column) rest ∙ entry-here column t (drop (k + 1) ts) h
 
     pub IsFromColumn-next : IsFromColumn column k ts → IsFromColumn column (k + 1) ts
@@ -38,7 +39,8 @@ module _ (column : ℕ) (ts : List (Term Place)) (k : ℕ) where
     SameEntriesPast-next h = λ i later. sym (ap (entry i) rest ∙ entry-elsewhere i t (drop (k + 1) ts) (λ e. omega arith))
 
     -- a term at a later column is the first past this one
-    pub IsFromColumn-past : IsDescending (place_cmp ones) ts → IsFromColumn column k ts → t.at.position ≢ column → IsFromColumn (column + 1) k ts
+    pub IsFromColumn-past : IsDescending (place_cmp ones) ts → IsFromColumn column k ts → t.at.position ≢ column
+        → IsFromColumn (column + 1) k ts
     IsFromColumn-past d h other =
         let here : column ≤ t.at.position = (subst Stands rest h).0 in
         let later : column + 1 ≤ t.at.position = omega arith in
@@ -59,15 +61,21 @@ module _ (names : List (List ℕ)) (columns : ℕ) (ts : List (Term Place)) wher
   entries_from-start = joined_from-start (λ i. polynomial_text names (entry i ts)) comma (range_with_len 0 columns)
 
   pub entries_from-end : (column : ℕ) → columns ≤ column → entries_from column ≡ []
-  entries_from-end column h = joined_from-end (λ i. polynomial_text names (entry i ts)) comma (range_with_len 0 columns) column (rw length-range_with_len h)
+  entries_from-end column h =
+      joined_from-end (λ i. polynomial_text names (entry i ts)) comma (range_with_len 0 columns) column
+      (rw length-range_with_len h)
 
   -- what is written and what is left make the whole text, before an entry is written and behind it
   pub entries_from_more : (column k : ℕ) (whole text separated next : List ℕ)
       → column < columns → text ++ entries_from column ≡ whole → entry column (drop k ts) ≡ entry column ts
-      → separated ≡ text ++ separator_after (ltb 0 column) comma → next ≡ separated ++ polynomial_text names (entry column (drop k ts))
+      → separated ≡ text ++ separator_after (ltb 0 column) comma
+      → next ≡ separated ++ polynomial_text names (entry column (drop k ts))
       → next ++ entries_from (column + 1) ≡ whole
   entries_from_more column k whole text separated next low so_far same before now =
       let place : column < length (range_with_len 0 columns) = rw length-range_with_len low in
-      let here = slice_get-get_or (range_with_len 0 columns) column 0 place ∙ ap Some (get_or-range_with_len 0 columns column 0 low ∙ zero-add column) in
-      joined_from_more (λ i. polynomial_text names (entry i ts)) comma (range_with_len 0 columns) whole text next column column so_far here
+      let here =
+      slice_get-get_or (range_with_len 0 columns) column 0 place
+      ∙ ap Some (get_or-range_with_len 0 columns column 0 low ∙ zero-add column) in
+      joined_from_more (λ i. polynomial_text names (entry i ts)) comma
+      (range_with_len 0 columns) whole text next column column so_far here
       (now ∙ ap (λ es. separated ++ polynomial_text names es) same ∙ ap (λ u. u ++ polynomial_text names (entry column ts)) before)

@@ -15,11 +15,13 @@ sign_and_rest [] = None
 sign_and_rest (b ∷ bs) = Some (b == minus, bs)
 
 -- at a sign the first text ends
-signed_parts-sign : (b : ℕ) (bs : List ℕ) (negative : Bool) → is_sign b ≡ true → signed_parts negative (b ∷ bs) ≡ (negative, []) ∷ signed_parts (b == minus) bs
+signed_parts-sign : (b : ℕ) (bs : List ℕ) (negative : Bool) → is_sign b ≡ true
+    → signed_parts negative (b ∷ bs) ≡ (negative, []) ∷ signed_parts (b == minus) bs
 signed_parts-sign b bs negative e = by (b == plus) (b == minus) refl refl e
   where
     by : (p m : Bool) → (b == plus) ≡ p → (b == minus) ≡ m → (p || m) ≡ true
-        → cond p ((negative, []) ∷ signed_parts false bs) (cond m ((negative, []) ∷ signed_parts true bs) (onto_first_text b (signed_parts negative bs)))
+        → cond p ((negative, []) ∷ signed_parts false bs)
+        (cond m ((negative, []) ∷ signed_parts true bs) (onto_first_text b (signed_parts negative bs)))
         ≡ (negative, []) ∷ signed_parts m bs
     by true true x y some = absurd (grind (arith, nat_tests))
     by true false x y some = refl
@@ -27,11 +29,13 @@ signed_parts-sign b bs negative e = by (b == plus) (b == minus) refl refl e
     by false false x y some = cc
 
 -- no other byte ends it
-signed_parts-other : (b : ℕ) (bs : List ℕ) (negative : Bool) → is_sign b ≡ false → signed_parts negative (b ∷ bs) ≡ onto_first_text b (signed_parts negative bs)
+signed_parts-other : (b : ℕ) (bs : List ℕ) (negative : Bool) → is_sign b ≡ false
+    → signed_parts negative (b ∷ bs) ≡ onto_first_text b (signed_parts negative bs)
 signed_parts-other b bs negative e = by (b == plus) (b == minus) e
   where
     by : (p m : Bool) → (p || m) ≡ false
-        → cond p ((negative, []) ∷ signed_parts false bs) (cond m ((negative, []) ∷ signed_parts true bs) (onto_first_text b (signed_parts negative bs)))
+        → cond p ((negative, []) ∷ signed_parts false bs)
+        (cond m ((negative, []) ∷ signed_parts true bs) (onto_first_text b (signed_parts negative bs)))
         ≡ onto_first_text b (signed_parts negative bs)
     by true m none = cc
     by false true none = cc
@@ -39,21 +43,27 @@ signed_parts-other b bs negative e = by (b == plus) (b == minus) e
 
 -- the first text goes to the first sign
 pub signed_parts-first : (text : List ℕ) (negative : Bool)
-    → signed_parts negative text ≡ (negative, take (position_or_len is_sign text) text) ∷ signed_left (sign_and_rest (drop (position_or_len is_sign text) text))
+    → signed_parts negative text
+    ≡ (negative, take (position_or_len is_sign text) text) ∷ signed_left
+    (sign_and_rest (drop (position_or_len is_sign text) text))
 signed_parts-first [] negative = refl
 signed_parts-first (b ∷ bs) negative = by (is_sign b) refl (signed_parts-first bs negative)
   where
     by : (t : Bool) → is_sign b ≡ t
-        → signed_parts negative bs ≡ (negative, take (position_or_len is_sign bs) bs) ∷ signed_left (sign_and_rest (drop (position_or_len is_sign bs) bs))
+        → signed_parts negative bs
+        ≡ (negative, take (position_or_len is_sign bs) bs) ∷ signed_left
+        (sign_and_rest (drop (position_or_len is_sign bs) bs))
         → signed_parts negative (b ∷ bs)
         ≡ (negative, take (cond (not t) (1 + position_or_len is_sign bs) 0) (b ∷ bs))
         ∷ signed_left (sign_and_rest (drop (cond (not t) (1 + position_or_len is_sign bs) 0) (b ∷ bs)))
     by true e rest = signed_parts-sign b bs negative e
     by false e rest = rw one-add (signed_parts-other b bs negative e ∙ ap (onto_first_text b) rest)
 
-pub signed_parts-None : (text : List ℕ) → position is_sign text ≡ None → (negative : Bool) → signed_parts negative text ≡ (negative, text) ∷ []
+pub signed_parts-None : (text : List ℕ) → position is_sign text ≡ None → (negative : Bool)
+    → signed_parts negative text ≡ (negative, text) ∷ []
 signed_parts-None text e negative =
-    let whole : position_or_len is_sign text ≡ length text = le_antisymm (prefix_len-le-length (λ b. not (is_sign b)) text) (position-None is_sign text e) in
+    let whole : position_or_len is_sign text ≡ length text =
+    le_antisymm (prefix_len-le-length (λ b. not (is_sign b)) text) (position-None is_sign text e) in
     signed_parts-first text negative
     ∙ ap (λ n. (negative, take n text) ∷ signed_left (sign_and_rest (drop n text))) whole
     ∙ (λ i. (negative, take-length text i) ∷ signed_left (sign_and_rest (drop-length text i)))

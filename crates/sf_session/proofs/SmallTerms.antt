@@ -35,7 +35,8 @@ exponent_of-small : (text : Option (List ℕ)) → IfSome (exponent_of text) (λ
 exponent_of-small None = omega arith
 exponent_of-small (Some digits) = by (are_digits 3 digits) (number_value-small digits)
   where
-    by : (t : Bool) → (t ≡ true → number_value digits ≤ 999) → IfSome (cond t (Some (number_value digits)) None) (λ n. n ≤ 999)
+    by : (t : Bool) → (t ≡ true → number_value digits ≤ 999)
+        → IfSome (cond t (Some (number_value digits)) None) (λ n. n ≤ 999)
     by true small = small refl
     by false small = tt
 
@@ -47,7 +48,8 @@ factor_of-small text = by (exponent_of (behind caret text)) (exponent_of-small (
     named false name n small = tt
 
     by : (o : Option ℕ) → IfSome o (λ n. n ≤ 999)
-        → IfSome (option_and_then (λ n. cond (is_name (before caret text)) (Some (before caret text, n)) None) o) IsSmallFactor
+        → IfSome (option_and_then (λ n. cond (is_name (before caret text)) (Some (before caret text, n)) None) o)
+        IsSmallFactor
     by None small = tt
     by (Some n) small = named (is_name (before caret text)) (before caret text) n small
 
@@ -55,7 +57,8 @@ pub all_of-small : (texts : List (List ℕ)) → IfSome (all_of factor_of texts)
 all_of-small [] = tt
 all_of-small (text ∷ texts) = by (factor_of text) (all_of factor_of texts) (factor_of-small text) (all_of-small texts)
   where
-    by : (o : Option (List ℕ × ℕ)) (p : Option (List (List ℕ × ℕ))) → IfSome o IsSmallFactor → IfSome p (AllByRecursion IsSmallFactor)
+    by : (o : Option (List ℕ × ℕ)) (p : Option (List (List ℕ × ℕ))) → IfSome o IsSmallFactor
+        → IfSome p (AllByRecursion IsSmallFactor)
         → IfSome (option_and_then (λ y. option_map (λ ys. y ∷ ys) p) o) (AllByRecursion IsSmallFactor)
     by None p one others = tt
     by (Some f) None one others = tt

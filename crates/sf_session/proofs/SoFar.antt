@@ -17,7 +17,8 @@ pub record SoFar (old new : Option (List ℕ)) (script rest : List ℕ) (state :
   pub written : Appends old new out
 
 -- answers to some lines and to one line more
-pub Answers-push : (old : State) (lines : List (List ℕ)) (out : List ℕ) (mid : State) (line reply : List ℕ) (new : State)
+pub Answers-push : (old : State) (lines : List (List ℕ)) (out : List ℕ) (mid : State) (line reply : List ℕ)
+    (new : State)
     → Answers old lines out mid → Step mid line reply new → Answers old (lines ++ line ∷ []) (out ++ reply) new
 Answers-push old [] out mid line reply new h step =
     (reply, [], new, subst (λ (state : State). Step state line reply new) h.1 step, (refl, refl), ap (λ o. o ++ reply) h.0 ∙ sym (append-nil reply))
@@ -31,10 +32,17 @@ Answers-push old (first ∷ lines) out mid line reply new h step = (
 )
 
 pub SoFar-none : (old : Option (List ℕ)) (script : List ℕ) → SoFar old old script script start
-SoFar-none old script = record { lines = []; out = []; split = refl; answered = (refl, refl); written = Appends-nil old }
+SoFar-none old script = record {
+  lines = [];
+  out = [];
+  split = refl;
+  answered = (refl, refl);
+  written = Appends-nil old;
+}
 
 pub SoFar-more : (old mid new : Option (List ℕ)) (script rest line others reply : List ℕ) (state after : State)
-    → SoFar old mid script rest state → script_lines rest ≡ line ∷ script_lines others → Step state line reply after → Appends mid new reply
+    → SoFar old mid script rest state → script_lines rest ≡ line ∷ script_lines others → Step state line reply after
+    → Appends mid new reply
     → SoFar old new script others after
 SoFar-more old mid new script rest line others reply state after h cut step written = record {
   lines = h.lines ++ line ∷ [];
@@ -44,9 +52,11 @@ SoFar-more old mid new script rest line others reply state after h cut step writ
   written = Appends-trans old mid new h.out reply h.written written;
 }
 
-pub SoFar-all : (old new : Option (List ℕ)) (script rest : List ℕ) (state : State) → SoFar old new script rest state → script_lines rest ≡ []
+pub SoFar-all : (old new : Option (List ℕ)) (script rest : List ℕ) (state : State) → SoFar old new script rest state
+    → script_lines rest ≡ []
     → (out : List ℕ) × Appends old new out × IsOutput script out
-SoFar-all old new script rest state h cut = (h.out, h.written, (state, subst (λ ls. Answers start ls h.out state) (sym (h.split ∙ ap (λ ls. h.lines ++ ls) cut ∙ append-nil h.lines)) h.answered))
+SoFar-all old new script rest state h cut =
+    (h.out, h.written, (state, subst (λ ls. Answers start ls h.out state) (sym (h.split ∙ ap (λ ls. h.lines ++ ls) cut ∙ append-nil h.lines)) h.answered))
 
 pub SoFar-whole : (old new : Option (List ℕ)) (script rest : List ℕ) (state : State) → SoFar old new script rest state
     → (out : List ℕ) × Appends old new out × IsWholeFront script out
@@ -54,7 +64,8 @@ SoFar-whole old new script rest state h = (h.out, h.written, (h.lines, script_li
 
 -- a beginning of the next reply was written
 pub SoFar-cut : (old mid new : Option (List ℕ)) (script rest line others reply : List ℕ) (n : ℕ) (state after : State)
-    → SoFar old mid script rest state → script_lines rest ≡ line ∷ script_lines others → Step state line reply after → Appends mid new (take n reply)
+    → SoFar old mid script rest state → script_lines rest ≡ line ∷ script_lines others → Step state line reply after
+    → Appends mid new (take n reply)
     → (out : List ℕ) × Appends old new out × IsFront script out
 SoFar-cut old mid new script rest line others reply n state after h cut step written = (
   h.out ++ take n reply,
@@ -66,7 +77,8 @@ SoFar-cut old mid new script rest line others reply n state after h cut step wri
       script_lines others,
       after,
       h.split ∙ ap (λ ls. h.lines ++ ls) cut ∙ sym (append_assoc h.lines (line ∷ []) (script_lines others)),
-      subst (λ o. Answers start (h.lines ++ line ∷ []) o after) (sym (append_assoc h.out (take n reply) (drop n reply) ∙ ap (λ o. h.out ++ o) (take-append-drop n reply)))
+      subst (λ o. Answers start (h.lines ++ line ∷ []) o after)
+          (sym (append_assoc h.out (take n reply) (drop n reply) ∙ ap (λ o. h.out ++ o) (take-append-drop n reply)))
           (Answers-push start h.lines h.out state line reply after h.answered step),
     ),
   ),

@@ -33,14 +33,17 @@ o >>= f = option_and_then f o
 
 -- spectral VERSION
 abbrev pub spectral_command : List (List ℕ) → Option Command
-spectral_command arguments = option_and_then (λ number. if is_integer number then Some (Spectral (integer_value number)) else None) (only arguments)
+spectral_command arguments =
+    option_and_then (λ number. if is_integer number then Some (Spectral (integer_value number)) else None)
+    (only arguments)
 
 -- ring MODULUS NAME .. NAME
 abbrev pub ring_command : List (List ℕ) → Option Command
 ring_command [] = None
 ring_command (number ∷ []) = None
 ring_command (number ∷ name ∷ names) =
-    if is_number number && list_all is_name (name ∷ names) then Some (Ring (number_value number) (name ∷ names)) else None
+    if is_number number && list_all is_name (name ∷ names) then Some
+    (Ring (number_value number) (name ∷ names)) else None
 
 -- show NAME
 abbrev pub show_command : List (List ℕ) → Option Command

@@ -16,4 +16,5 @@ HasOneOutput = (script : List ℕ)
 
 -- what was written when a run ended early is a beginning of the output
 abbrev pub FrontBeginsOutput : Type 0
-FrontBeginsOutput = (script front out : List ℕ) → IsFront script front → IsOutput script out → (more : List ℕ) × (out ≡ front ++ more)
+FrontBeginsOutput =
+    (script front out : List ℕ) → IsFront script front → IsOutput script out → (more : List ℕ) × (out ≡ front ++ more)

@@ -33,7 +33,8 @@ factor_of text =
 abbrev pub with_factors : Bool → ℕ → List (List ℕ) → Option RawTerm
 with_factors negative coefficient texts =
     option_and_then (λ factors.
-    if nat_le (length factors) 6 then Some (record { minus = negative; coefficient = coefficient; factors = factors }) else None)
+    if nat_le (length factors) 6 then Some
+    (record { minus = negative; coefficient = coefficient; factors = factors }) else None)
     (all_of factor_of texts)
 
 -- a number, factors, or a number and factors, joined by stars
@@ -68,7 +69,8 @@ signed_left (Some rest) = signed_parts rest.0 rest.1
 
 -- a sum of terms, the first of which may have a minus
 abbrev pub entry_of : List ℕ → Option (List RawTerm)
-entry_of text = all_of term_of (if begins_with minus text then signed_parts true (drop 1 text) else signed_parts false text)
+entry_of text =
+    all_of term_of (if begins_with minus text then signed_parts true (drop 1 text) else signed_parts false text)
 
 abbrev pub row_of : List ℕ → Option (List (List RawTerm))
 row_of text = all_of entry_of (parts comma text)

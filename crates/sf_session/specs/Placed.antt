@@ -27,12 +27,16 @@ residue_of p t = if t.minus then negative_mod p (t.coefficient % p) else t.coeff
 
 -- a term at a column
 abbrev pub placed_term : Ring → ℕ → RawTerm → Term Place
-placed_term ring column t = record { at = record { position = column; monomial = monomial_of ring.names t.factors }; coefficient = residue_of ring.modulus t }
+placed_term ring column t = record {
+  at = record { position = column; monomial = monomial_of ring.names t.factors };
+  coefficient = residue_of ring.modulus t;
+}
 
 -- the terms of the entries from a column on
 abbrev pub placed_terms : Ring → ℕ → List (List RawTerm) → List (Term Place)
 placed_terms ring column [] = []
-placed_terms ring column (entry ∷ entries) = map (placed_term ring column) entry ++ placed_terms ring (column + 1) entries
+placed_terms ring column (entry ∷ entries) =
+    map (placed_term ring column) entry ++ placed_terms ring (column + 1) entries
 
 -- a row: equal terms meet, zeros vanish, and it has the degree of its greatest term
 abbrev pub row_vector : Ring → List ℤ → List (List RawTerm) → Vector
@@ -42,7 +46,11 @@ row_vector ring degrees entries =
 
 -- the matrix with these rows over the free module with these degrees
 abbrev pub relations_of : Ring → List ℤ → List (List (List RawTerm)) → Matrix
-relations_of ring degrees rows = record { ring = plain ring.modulus; target = degrees; rows = map (row_vector ring degrees) rows }
+relations_of ring degrees rows = record {
+  ring = plain ring.modulus;
+  target = degrees;
+  rows = map (row_vector ring degrees) rows;
+}
 
 -- each row has an entry for each generator
 abbrev pub has_shape : ℕ → List (List (List RawTerm)) → Bool

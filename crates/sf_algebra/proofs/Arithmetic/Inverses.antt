@@ -37,7 +37,8 @@ reaches_itself p a positive below = record {
 }
 
 -- one division leads to a smaller remainder
-pub reaches_remainder : (p a factor rest : ℕ) → IsPrime p → rest ≢ 1 → Reaches p a factor rest → Reaches p a (product_mod p factor (negative_mod p (p / rest))) (p % rest)
+pub reaches_remainder : (p a factor rest : ℕ) → IsPrime p → rest ≢ 1 → Reaches p a factor rest
+    → Reaches p a (product_mod p factor (negative_mod p (p / rest))) (p % rest)
 reaches_remainder p a factor rest prime apart r =
     let undivided : p % rest ≢ 0 = prime.undivided rest (omega arith) r.rest_below in
     record {
@@ -49,7 +50,8 @@ reaches_remainder p a factor rest prime apart r =
           ∙ product_mod-negative_quotient p rest r.positive r.rest_below;
     }
 
-inverse_from : (p : ℕ) → IsPrime p → (bound a factor rest : ℕ) → rest ≤ bound → Reaches p a factor rest → (b : ℕ) × (b < p) × (product_mod p a b ≡ 1)
+inverse_from : (p : ℕ) → IsPrime p → (bound a factor rest : ℕ) → rest ≤ bound → Reaches p a factor rest
+    → (b : ℕ) × (b < p) × (product_mod p a b ≡ 1)
 inverse_from p prime zero a factor rest within r = absurd (omega (arith, r.positive))
 inverse_from p prime (suc bound) a factor rest within r = elim (cases_eq rest 1) [
   | inl done ↦ (factor, r.factor_below, r.product ∙ done)
@@ -82,7 +84,8 @@ inverse_unique p a b c b_below c_below with_b with_c =
     ∙ product_mod-inverse p b a c (product_mod-comm p b a ∙ with_b) c_below
 
 -- a factor that two products share can be left out
-pub product_mod-cancel : (p a b c : ℕ) → IsPrime p → 0 < a → a < p → b < p → c < p → product_mod p a b ≡ product_mod p a c → b ≡ c
+pub product_mod-cancel : (p a b c : ℕ) → IsPrime p → 0 < a → a < p → b < p → c < p
+    → product_mod p a b ≡ product_mod p a c → b ≡ c
 product_mod-cancel p a b c prime positive a_below b_below c_below same =
     let found : (i : ℕ) × (i < p) × (product_mod p a i ≡ 1) = inverse_exists p prime a positive a_below in
     let turned : product_mod p found.0 a ≡ 1 = product_mod-comm p found.0 a ∙ found.2 in

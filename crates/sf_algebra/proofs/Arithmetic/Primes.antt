@@ -13,7 +13,8 @@ pub no_factor-at : (p n d : ℕ) → no_factor p n ≡ true → 1 < d → d < n 
 unfolding no_factor
 no_factor-at p zero d tried above in_reach below divides = absurd (omega arith)
 no_factor-at p (suc n) d tried above in_reach below divides =
-    let parts : ((p == suc (suc n) || not (p % suc (suc n) == 0)) ≡ true) × (no_factor p n ≡ true) = and_parts _ _ tried in
+    let parts : ((p == suc (suc n) || not (p % suc (suc n) == 0)) ≡ true) × (no_factor p n ≡ true) =
+    and_parts _ _ tried in
     elim (cases_eq d (suc (suc n))) [
       | inl last ↦ elim (or_cases (p == suc (suc n)) (not (p % suc (suc n) == 0)) parts.0) [
         | inl itself ↦ absurd (omega (arith, eqb-true p (suc (suc n)) itself))

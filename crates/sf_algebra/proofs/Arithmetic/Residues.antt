@@ -17,7 +17,8 @@ unfolding sum_mod
 sum_mod-assoc p a b c = simp (mod-add-mod, add-mod-mod, add_assoc)
 
 -- a sum of two sums, by their first terms and their second ones
-pub sum_mod-exchange : (p a b c d : ℕ) → sum_mod p (sum_mod p a b) (sum_mod p c d) ≡ sum_mod p (sum_mod p a c) (sum_mod p b d)
+pub sum_mod-exchange : (p a b c d : ℕ)
+    → sum_mod p (sum_mod p a b) (sum_mod p c d) ≡ sum_mod p (sum_mod p a c) (sum_mod p b d)
 sum_mod-exchange p a b c d =
     sum_mod-assoc p a b (sum_mod p c d)
     ∙ ap (sum_mod p a) (sym (sum_mod-assoc p b c d) ∙ ap (λ n. sum_mod p n d) (sum_mod-comm p b c) ∙ sum_mod-assoc p c b d)
@@ -56,7 +57,8 @@ sum_mod-cancel p a b c positive same =
     away : (n : ℕ) → sum_mod p (negative_mod p (a % p)) (sum_mod p a n) ≡ n % p
     away n =
         sym (sum_mod-assoc p (negative_mod p (a % p)) a n)
-        ∙ ap (λ m. sum_mod p m n) (sym (sum_mod-second p _ a) ∙ sum_mod-comm p (negative_mod p (a % p)) (a % p) ∙ sum_mod-negative p (a % p) (mod-lt a positive))
+        ∙ ap (λ m. sum_mod p m n)
+        (sym (sum_mod-second p _ a) ∙ sum_mod-comm p (negative_mod p (a % p)) (a % p) ∙ sum_mod-negative p (a % p) (mod-lt a positive))
         ∙ sum_mod-zero_first p n
 
 pub sum_mod-small : (p a b : ℕ) → a + b < p → sum_mod p a b ≡ a + b
@@ -110,6 +112,7 @@ pub product_mod-second : (p a b : ℕ) → product_mod p a (b % p) ≡ product_m
 unfolding product_mod
 product_mod-second p a b = mul-mod_second a b p
 
-pub product_mod-sum : (p a b c : ℕ) → product_mod p a (sum_mod p b c) ≡ sum_mod p (product_mod p a b) (product_mod p a c)
+pub product_mod-sum : (p a b c : ℕ)
+    → product_mod p a (sum_mod p b c) ≡ sum_mod p (product_mod p a b) (product_mod p a c)
 unfolding sum_mod product_mod
 product_mod-sum p a b c = simp (mul-mod_second, mod-add-mod, add-mod-mod, mul-add)

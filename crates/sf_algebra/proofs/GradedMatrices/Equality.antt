@@ -13,7 +13,8 @@ use Rattle.sf_algebra.proofs.Monomials.MonomialEquality.{same_exponents, Decides
 
 -- position, monomial and coefficient, one after another
 abbrev pub same_term : Term Place → Term Place → Bool
-same_term t u = (t.at.position == u.at.position) && (same_exponents t.at.monomial u.at.monomial && (t.coefficient == u.coefficient))
+same_term t u =
+    (t.at.position == u.at.position) && (same_exponents t.at.monomial u.at.monomial && (t.coefficient == u.coefficient))
 
 pub Decides-same_term : (t u : Term Place) → Decides (same_term t u) (t ≡ u)
 Decides-same_term t u =
@@ -45,7 +46,8 @@ Decides-same_weights v w =
     (Decides-and _ _ (Decides-eqb v.w3 w.w3)
     (Decides-and _ _ (Decides-eqb v.w4 w.w4)
     (Decides-and _ _ (Decides-eqb v.w5 w.w5) (Decides-eqb v.w6 w.w6))))) in (
-      λ h. let p = d.0 h in λ i. record { w1 = p.0 i; w2 = p.1.0 i; w3 = p.1.1.0 i; w4 = p.1.1.1.0 i; w5 = p.1.1.1.1.0 i; w6 = p.1.1.1.1.1 i },
+      λ h. let p =
+          d.0 h in λ i. record { w1 = p.0 i; w2 = p.1.0 i; w3 = p.1.1.0 i; w4 = p.1.1.1.0 i; w5 = p.1.1.1.1.0 i; w6 = p.1.1.1.1.1 i },
       λ e. d.1 (ap (λ k. k.w1) e, (ap (λ k. k.w2) e, (ap (λ k. k.w3) e, (ap (λ k. k.w4) e, (ap (λ k. k.w5) e, ap (λ k. k.w6) e))))),
     )
 

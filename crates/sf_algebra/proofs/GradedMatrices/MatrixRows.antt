@@ -31,7 +31,8 @@ row_at-take (suc n) (v ∷ vs) zero h = refl
 row_at-take (suc n) (v ∷ vs) (suc i) h = row_at-take n vs i (omega arith)
 
 -- what holds of the terms of each row, and of no terms, holds of the row at each number
-pub row_at-each : (P : List (Term Place) → Type 0) → P [] → (vs : List Vector) → AllByRecursion (λ v. P v.terms) vs → (i : ℕ) → P (row_at vs i)
+pub row_at-each : (P : List (Term Place) → Type 0) → P [] → (vs : List Vector) → AllByRecursion (λ v. P v.terms) vs
+    → (i : ℕ) → P (row_at vs i)
 row_at-each P none [] h i = none
 row_at-each P none (v ∷ vs) h zero = h.0
 row_at-each P none (v ∷ vs) h (suc i) = row_at-each P none vs h.1 i
@@ -42,9 +43,11 @@ module _ (ring : Ring) (degrees : List ℤ) (vs : List Vector) (h : AllByRecursi
 
   pub IsWithin-matrix_row : (i : ℕ) → IsWithin (length degrees) (row_at vs i)
   IsWithin-matrix_row i =
-      row_at-each (IsWithin (length degrees)) tt vs (AllByRecursion-weaken _ _ (λ v k. AllByRecursion-weaken _ _ (λ t e. e.0) v.terms k.homogeneous) vs h) i
+      row_at-each (IsWithin (length degrees)) tt vs
+      (AllByRecursion-weaken _ _ (λ v k. AllByRecursion-weaken _ _ (λ t e. e.0) v.terms k.homogeneous) vs h) i
 
-pub same_rows : (us vs : List Vector) → map (λ (v : Vector). v.degree) us ≡ map (λ (v : Vector). v.degree) vs → ((i : ℕ) → row_at us i ≡ row_at vs i) → us ≡ vs
+pub same_rows : (us vs : List Vector) → map (λ (v : Vector). v.degree) us ≡ map (λ (v : Vector). v.degree) vs
+    → ((i : ℕ) → row_at us i ≡ row_at vs i) → us ≡ vs
 same_rows [] [] degrees same = refl
 same_rows [] (v ∷ vs) degrees same = cc
 same_rows (u ∷ us) [] degrees same = cc
@@ -55,7 +58,8 @@ same_rows (u ∷ us) (v ∷ vs) degrees same =
     λ i. record { degree = first i; terms = same zero i } ∷ rest i
 
 -- matrices with equal entries, and equal degrees, are equal
-pub same_matrices : (a b : Matrix) → IsMatrix a → IsMatrix b → a.ring ≡ b.ring → a.target ≡ b.target → row_degrees a ≡ row_degrees b → ((i j : ℕ) → entry j (row_at a.rows i) ≡ entry j (row_at b.rows i)) → a ≡ b
+pub same_matrices : (a b : Matrix) → IsMatrix a → IsMatrix b → a.ring ≡ b.ring → a.target ≡ b.target
+    → row_degrees a ≡ row_degrees b → ((i j : ℕ) → entry j (row_at a.rows i) ≡ entry j (row_at b.rows i)) → a ≡ b
 same_matrices a b h k rings targets degrees same =
     let rows : a.rows ≡ b.rows = same_rows a.rows b.rows degrees (λ i. same_from_entries a.ring.weights _ _
     (IsCanonical-matrix_row a.ring a.target a.rows h i).descending

@@ -31,13 +31,15 @@ entry-negative p j (t ∷ ts) =
 
 pub IsMatrix-negated : (m : Matrix) → IsMatrix m → IsMatrix (negated m)
 IsMatrix-negated m h =
-    AllByRecursion-map (IsVector m.ring m.target) (λ (v : Vector). record { degree = v.degree; terms = negative m.ring.modulus v.terms }) m.rows
+    AllByRecursion-map (IsVector m.ring m.target)
+    (λ (v : Vector). record { degree = v.degree; terms = negative m.ring.modulus v.terms }) m.rows
     (AllByRecursion-weaken _ _ (λ v k. IsVector-negative m.ring m.target v.degree v.terms k) m.rows h)
 
 pub row_degrees-negated : (m : Matrix) → row_degrees (negated m) ≡ row_degrees m
 row_degrees-negated m = degrees-with_terms (negative m.ring.modulus) m.rows
 
-pub entry-negated : (m : Matrix) (i j : ℕ) → entry j (row_at (negated m).rows i) ≡ negative m.ring.modulus (entry j (row_at m.rows i))
+pub entry-negated : (m : Matrix) (i j : ℕ)
+    → entry j (row_at (negated m).rows i) ≡ negative m.ring.modulus (entry j (row_at m.rows i))
 entry-negated m i j = ap (entry j) (row_at-negated m i) ∙ entry-negative m.ring.modulus j (row_at m.rows i)
 
 pub negated-negated : (m : Matrix) → IsMatrix m → negated (negated m) ≡ m
@@ -51,7 +53,8 @@ pub transposed-negated : (m : Matrix) → IsMatrix m → transposed (negated m) 
 transposed-negated m h =
     let k = IsMatrix-negated m h in
     let t = IsMatrix-transposed m h in
-    same_matrices (transposed (negated m)) (negated (transposed m)) (IsMatrix-transposed (negated m) k) (IsMatrix-negated (transposed m) t) refl
+    same_matrices (transposed (negated m)) (negated (transposed m)) (IsMatrix-transposed (negated m) k)
+    (IsMatrix-negated (transposed m) t) refl
     (ap (map neg_ℤ) (row_degrees-negated m))
     (row_degrees-transposed (negated m) ∙ sym (row_degrees-negated (transposed m) ∙ row_degrees-transposed m))
     (λ i j.

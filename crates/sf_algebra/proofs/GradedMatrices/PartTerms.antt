@@ -20,7 +20,10 @@ use Rattle.sf_algebra.proofs.Vectors.Entries.{without_position, entry-here, entr
 
 -- a term that stands so many positions earlier
 abbrev pub moved_back : ℕ → Term Place → Term Place
-moved_back by t = record { at = record { position = t.at.position - by; monomial = t.at.monomial }; coefficient = t.coefficient }
+moved_back by t = record {
+  at = record { position = t.at.position - by; monomial = t.at.monomial };
+  coefficient = t.coefficient;
+}
 
 -- the position is in the range from `from` to before `to`
 abbrev pub IsBetween : ℕ → ℕ → ℕ → Type 0
@@ -40,34 +43,42 @@ abbrev between : ℕ → ℕ → List (Term Place) → List (Term Place)
 between from to = filter (λ (t : Term Place). nat_le from t.at.position && nat_lt t.at.position to)
 
 module _ (from to : ℕ) (t : Term Place) (ts : List (Term Place)) where
-  pub part_terms-inside : from ≤ t.at.position → t.at.position < to → part_terms from to (t ∷ ts) ≡ moved_back from t ∷ part_terms from to ts
+  pub part_terms-inside : from ≤ t.at.position → t.at.position < to
+      → part_terms from to (t ∷ ts) ≡ moved_back from t ∷ part_terms from to ts
   part_terms-inside reached within =
       let yes : (nat_le from t.at.position && nat_lt t.at.position to) ≡ true = grind (arith, nat_tests) in
       ap (λ b. map (moved_back from) (cond b (t ∷ between from to ts) (between from to ts))) yes
 
-  pub part_terms-outside : (t.at.position < from) ⊎ (to ≤ t.at.position) → part_terms from to (t ∷ ts) ≡ part_terms from to ts
+  pub part_terms-outside : (t.at.position < from) ⊎ (to ≤ t.at.position)
+      → part_terms from to (t ∷ ts) ≡ part_terms from to ts
   part_terms-outside outside =
-      let no : (nat_le from t.at.position && nat_lt t.at.position to) ≡ false = elim outside [ inl before ↦ grind (arith, nat_tests) | inr past ↦ grind (arith, nat_tests) ] in
+      let no : (nat_le from t.at.position && nat_lt t.at.position to) ≡ false =
+      elim outside [ inl before ↦ grind (arith, nat_tests) | inr past ↦ grind (arith, nat_tests) ] in
       ap (λ b. map (moved_back from) (cond b (t ∷ between from to ts) (between from to ts))) no
 
-pub part_terms-append : (from to : ℕ) (ts us : List (Term Place)) → part_terms from to (ts ++ us) ≡ part_terms from to ts ++ part_terms from to us
+pub part_terms-append : (from to : ℕ) (ts us : List (Term Place))
+    → part_terms from to (ts ++ us) ≡ part_terms from to ts ++ part_terms from to us
 part_terms-append from to ts us =
-    ap (map (moved_back from)) (filter-append (λ (t : Term Place). nat_le from t.at.position && nat_lt t.at.position to) ts us)
+    ap (map (moved_back from))
+    (filter-append (λ (t : Term Place). nat_le from t.at.position && nat_lt t.at.position to) ts us)
     ∙ map-append (moved_back from) (between from to ts) (between from to us)
 
 -- what follows for each term in the range, once moved
-pub AllByRecursion-part_terms : (P Q : Term Place → Type 0) (from to : ℕ) → ((t : Term Place) → from ≤ t.at.position → t.at.position < to → P t → Q (moved_back from t))
+pub AllByRecursion-part_terms : (P Q : Term Place → Type 0) (from to : ℕ)
+    → ((t : Term Place) → from ≤ t.at.position → t.at.position < to → P t → Q (moved_back from t))
     → (ts : List (Term Place)) → AllByRecursion P ts → AllByRecursion Q (part_terms from to ts)
 AllByRecursion-part_terms P Q from to f [] h = tt
 AllByRecursion-part_terms P Q from to f (t ∷ ts) h =
     let others = AllByRecursion-part_terms P Q from to f ts h.1 in
     elim (cases_between from to t.at.position) [
-      | inl inside ↦ subst (AllByRecursion Q) (sym (part_terms-inside from to t ts inside.0 inside.1)) (f t inside.0 inside.1 h.0, others)
+      | inl inside ↦ subst (AllByRecursion Q) (sym (part_terms-inside from to t ts inside.0 inside.1))
+          (f t inside.0 inside.1 h.0, others)
       | inr outside ↦ subst (AllByRecursion Q) (sym (part_terms-outside from to t ts outside)) others
     ]
 
 -- the entry so many positions further on
-pub entry-part_terms : (from to j : ℕ) (ts : List (Term Place)) → from + j < to → entry j (part_terms from to ts) ≡ entry (from + j) ts
+pub entry-part_terms : (from to j : ℕ) (ts : List (Term Place)) → from + j < to
+    → entry j (part_terms from to ts) ≡ entry (from + j) ts
 entry-part_terms from to j [] h = refl
 entry-part_terms from to j (t ∷ ts) h =
     let others = entry-part_terms from to j ts h in
@@ -93,7 +104,9 @@ entry-part_terms from to j (t ∷ ts) h =
 
 -- past the range there is nothing
 pub IsWithin-part_terms : (from to : ℕ) (ts : List (Term Place)) → IsWithin (to - from) (part_terms from to ts)
-IsWithin-part_terms from to ts = AllByRecursion-part_terms (λ _. Unit {0}) _ from to (λ t reached within h. omega arith) ts (AllByRecursion-always _ (λ t. tt) ts)
+IsWithin-part_terms from to ts =
+    AllByRecursion-part_terms (λ _. Unit {0}) _ from to (λ t reached within h. omega arith) ts
+    (AllByRecursion-always _ (λ t. tt) ts)
 
 -- a vector all of whose terms stand in the range
 pub part_terms-whole : (n : ℕ) (ts : List (Term Place)) → IsWithin n ts → part_terms 0 n ts ≡ ts
@@ -105,13 +118,15 @@ part_terms-whole n (t ∷ ts) h =
 nat_cmp-sub : (k m n : ℕ) → k ≤ m → k ≤ n → nat_cmp (m - k) (n - k) ≡ nat_cmp m n
 nat_cmp-sub k m n first second = grind (arith, nat_tests)
 
-pub IsDescending-part_terms : (weights : Weights) (from to : ℕ) (ts : List (Term Place)) → IsDescending (place_cmp weights) ts → IsDescending (place_cmp weights) (part_terms from to ts)
+pub IsDescending-part_terms : (weights : Weights) (from to : ℕ) (ts : List (Term Place))
+    → IsDescending (place_cmp weights) ts → IsDescending (place_cmp weights) (part_terms from to ts)
 IsDescending-part_terms weights from to [] h = tt
 IsDescending-part_terms weights from to (t ∷ ts) h =
     let others = IsDescending-part_terms weights from to ts h.1 in
     elim (cases_between from to t.at.position) [
       | inl inside ↦ subst (IsDescending (place_cmp weights)) (sym (part_terms-inside from to t ts inside.0 inside.1)) (
-        AllByRecursion-part_terms (λ u. place_cmp weights u.at t.at ≡ Less) (λ u. place_cmp weights u.at (moved_back from t).at ≡ Less) from to
+        AllByRecursion-part_terms (λ u. place_cmp weights u.at t.at ≡ Less)
+            (λ u. place_cmp weights u.at (moved_back from t).at ≡ Less) from to
             (λ u reached within less. ap (λ o. ordering_then o (monomial_cmp weights u.at.monomial t.at.monomial)) (nat_cmp-sub from t.at.position u.at.position inside.0 reached) ∙ less)
             ts h.0,
         others,
@@ -119,14 +134,18 @@ IsDescending-part_terms weights from to (t ∷ ts) h =
       | inr outside ↦ subst (IsDescending (place_cmp weights)) (sym (part_terms-outside from to t ts outside)) others
     ]
 
-pub IsCanonical-part_terms : (ring : Ring) (from to : ℕ) (ts : List (Term Place)) → IsCanonicalRow ring ts → IsCanonicalRow ring (part_terms from to ts)
+pub IsCanonical-part_terms : (ring : Ring) (from to : ℕ) (ts : List (Term Place)) → IsCanonicalRow ring ts
+    → IsCanonicalRow ring (part_terms from to ts)
 IsCanonical-part_terms ring from to ts h = record {
   descending = IsDescending-part_terms ring.weights from to ts h.descending;
-  residues = AllByRecursion-part_terms (IsNonzeroResidue ring.modulus) (IsNonzeroResidue ring.modulus) from to (λ t reached within k. k) ts h.residues;
+  residues =
+      AllByRecursion-part_terms (IsNonzeroResidue ring.modulus) (IsNonzeroResidue ring.modulus) from to
+      (λ t reached within k. k) ts h.residues;
 }
 
 -- the degrees of the generators in the range
-pub generator_degree-slice_range : (degrees : List ℤ) (from to i : ℕ) → from ≤ i → i < to → generator_degree (slice_range degrees from to) (i - from) ≡ generator_degree degrees i
+pub generator_degree-slice_range : (degrees : List ℤ) (from to i : ℕ) → from ≤ i → i < to
+    → generator_degree (slice_range degrees from to) (i - from) ≡ generator_degree degrees i
 generator_degree-slice_range degrees from to i reached within =
     get_or-take (to - from) (drop from degrees) (i - from) (pos 0) (omega arith)
     ∙ get_or-drop from degrees (i - from) (pos 0)
@@ -137,12 +156,17 @@ pub IsVector-part_terms : (ring : Ring) (degrees : List ℤ) (from to : ℕ) (v 
     → IsVector ring (slice_range degrees from to) (record { degree = v.degree; terms = part_terms from to v.terms })
 IsVector-part_terms ring degrees from to v h = record {
   canonical = IsCanonical-part_terms ring from to v.terms h.canonical;
-  homogeneous = AllByRecursion-part_terms (IsTermOfDegree ring.weights degrees v.degree) (IsTermOfDegree ring.weights (slice_range degrees from to) v.degree) from to moves v.terms h.homogeneous;
+  homogeneous =
+      AllByRecursion-part_terms (IsTermOfDegree ring.weights degrees v.degree)
+      (IsTermOfDegree ring.weights (slice_range degrees from to) v.degree) from to moves v.terms h.homogeneous;
 }
   where
-    moves : (t : Term Place) → from ≤ t.at.position → t.at.position < to → IsTermOfDegree ring.weights degrees v.degree t → IsTermOfDegree ring.weights (slice_range degrees from to) v.degree (moved_back from t)
+    moves : (t : Term Place) → from ≤ t.at.position → t.at.position < to
+        → IsTermOfDegree ring.weights degrees v.degree t
+        → IsTermOfDegree ring.weights (slice_range degrees from to) v.degree (moved_back from t)
     moves t reached within k =
         let inside : t.at.position < length degrees = k.0 in (
           rw (length-take, length-drop) (omega arith),
-          k.1 ∙ ap (λ d. d +ℤ pos (monomial_degree ring.weights t.at.monomial)) (sym (generator_degree-slice_range degrees from to t.at.position reached within)),
+          k.1 ∙ ap (λ d. d +ℤ pos (monomial_degree ring.weights t.at.monomial))
+              (sym (generator_degree-slice_range degrees from to t.at.position reached within)),
         )

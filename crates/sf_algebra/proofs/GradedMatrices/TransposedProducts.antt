@@ -25,7 +25,8 @@ pub entry-unit_rows_other : (ds : List ℤ) (i j : ℕ) → i ≢ j → entry j 
 entry-unit_rows_other ds i j other =
     elim (cases_lt i (length ds)) [
       | inl inside ↦
-          ap (entry j) (row_at-unit_rows ds 0 i inside) ∙ entry-elsewhere j (unit_term (0 + i)) [] (λ e. other (omega arith))
+          ap (entry j) (row_at-unit_rows ds 0 i inside)
+          ∙ entry-elsewhere j (unit_term (0 + i)) [] (λ e. other (omega arith))
       | inr past ↦ ap (entry j) (row_at-past (unit_rows 0 ds) i (rw (length-unit_rows 0 ds) past))
     ]
 
@@ -33,7 +34,8 @@ pub entry-unit_rows_past : (ds : List ℤ) (i j : ℕ) → length ds ≤ i → e
 entry-unit_rows_past ds i j past = ap (entry j) (row_at-past (unit_rows 0 ds) i (rw (length-unit_rows 0 ds) past))
 
 -- identities of one size have the same entries, and rows and columns may be exchanged
-pub entry-unit_rows_exchange : (ds es : List ℤ) (i j : ℕ) → length ds ≡ length es → entry j (row_at (unit_rows 0 ds) i) ≡ entry i (row_at (unit_rows 0 es) j)
+pub entry-unit_rows_exchange : (ds es : List ℤ) (i j : ℕ) → length ds ≡ length es
+    → entry j (row_at (unit_rows 0 ds) i) ≡ entry i (row_at (unit_rows 0 es) j)
 entry-unit_rows_exchange ds es i j size =
     elim (cases_eq i j) [
       | inl same ↦ subst (λ k. entry k (row_at (unit_rows 0 ds) i) ≡ entry i (row_at (unit_rows 0 es) k)) same
@@ -44,10 +46,12 @@ entry-unit_rows_exchange ds es i j size =
       | inr other ↦ entry-unit_rows_other ds i j other ∙ sym (entry-unit_rows_other es j i (λ e. other (sym e)))
     ]
 
-pub transposed-identity : (ring : Ring) (ds : List ℤ) → 1 < ring.modulus → transposed (identity ring ds) ≡ identity ring (map neg_ℤ ds)
+pub transposed-identity : (ring : Ring) (ds : List ℤ) → 1 < ring.modulus
+    → transposed (identity ring ds) ≡ identity ring (map neg_ℤ ds)
 transposed-identity ring ds above =
     let h = IsMatrix-identity ring above ds in
-    same_matrices (transposed (identity ring ds)) (identity ring (map neg_ℤ ds)) (IsMatrix-transposed (identity ring ds) h) (IsMatrix-identity ring above (map neg_ℤ ds)) refl
+    same_matrices (transposed (identity ring ds)) (identity ring (map neg_ℤ ds))
+    (IsMatrix-transposed (identity ring ds) h) (IsMatrix-identity ring above (map neg_ℤ ds)) refl
     (ap (map neg_ℤ) (row_degrees-identity ring ds))
     (row_degrees-transposed (identity ring ds) ∙ sym (row_degrees-identity ring (map neg_ℤ ds)))
     (λ i j. entry-transposed (identity ring ds) h j i ∙ entry-unit_rows_exchange ds (map neg_ℤ ds) j i (sym (length-map ds neg_ℤ)))
@@ -59,7 +63,8 @@ IsComposable-transposed a b c = record {
   degrees = row_degrees-transposed a ∙ ap (map neg_ℤ) (sym c.degrees);
 }
 
-pub transposed-matrix_product : (a b : Matrix) → IsComposable a b → IsMatrix a → IsMatrix b → transposed (matrix_product a b) ≡ matrix_product (transposed b) (transposed a)
+pub transposed-matrix_product : (a b : Matrix) → IsComposable a b → IsMatrix a → IsMatrix b
+    → transposed (matrix_product a b) ≡ matrix_product (transposed b) (transposed a)
 transposed-matrix_product a b c h k =
     let ab = IsMatrix-matrix_product a b c h k in
     let ta = IsMatrix-transposed a h in
@@ -74,7 +79,8 @@ transposed-matrix_product a b c h k =
     (λ i j.
     entry-transposed (matrix_product a b) ab j i
     ∙ ap (entry i) (row_at-matrix_product a.ring c.positive a b j refl)
-    ∙ entry-row_combination a.ring c.positive i b.rows (row_at a.rows j) (row_at (transposed b).rows i) (λ l. entry-transposed b k l i)
+    ∙ entry-row_combination a.ring c.positive i b.rows (row_at a.rows j) (row_at (transposed b).rows i)
+    (λ l. entry-transposed b k l i)
     ∙ inner_product-comm a.ring c.positive (row_at a.rows j) (row_at (transposed b).rows i)
     ∙ ap (λ ring. inner_product ring (row_at (transposed b).rows i) (row_at a.rows j)) c.rings
     ∙ sym (entry-row_combination b.ring d.positive j (transposed a).rows (row_at (transposed b).rows i) (row_at a.rows j) (λ l. sym (entry-transposed a h j l)))

@@ -17,7 +17,8 @@ use Rattle.sf_algebra.proofs.Vectors.Entries.{entry-elsewhere}
 use Rattle.sf_algebra.proofs.Vectors.Positions.{same_from_entries}
 use Rattle.sf_algebra.proofs.Vectors.Rows.{row_at-past}
 
-pub degrees-column_rows : (rows : List Vector) (j : ℕ) (ds : List ℤ) → map (λ (v : Vector). v.degree) (column_rows rows j ds) ≡ map neg_ℤ ds
+pub degrees-column_rows : (rows : List Vector) (j : ℕ) (ds : List ℤ)
+    → map (λ (v : Vector). v.degree) (column_rows rows j ds) ≡ map neg_ℤ ds
 degrees-column_rows rows j [] = refl
 degrees-column_rows rows j (d ∷ ds) = ap (λ es. neg_ℤ d ∷ es) (degrees-column_rows rows (suc j) ds)
 
@@ -27,11 +28,19 @@ length-column_rows rows j (d ∷ ds) = ap suc (length-column_rows rows (suc j) d
 
 -- with one more column
 pub column_rows-push : (rows : List Vector) (j : ℕ) (ds : List ℤ) (d : ℤ) (n : ℕ) → n ≡ j + length ds
-    → column_rows rows j (ds ++ d ∷ []) ≡ column_rows rows j ds ++ record { degree = neg_ℤ d; terms = column_terms n 0 rows } ∷ []
-column_rows-push rows j [] d n e = ap (λ m. record { degree = neg_ℤ d; terms = column_terms m 0 rows } ∷ []) (let same : j ≡ n = omega arith in same)
-column_rows-push rows j (c ∷ ds) d n e = ap (λ vs. record { degree = neg_ℤ c; terms = column_terms j 0 rows } ∷ vs) (column_rows-push rows (suc j) ds d n (omega arith))
+    → column_rows rows j (ds ++ d ∷ []) ≡ column_rows rows j ds ++ record {
+      degree =
+          neg_ℤ d;
+      terms = column_terms n 0 rows;
+    } ∷ []
+column_rows-push rows j [] d n e =
+    ap (λ m. record { degree = neg_ℤ d; terms = column_terms m 0 rows } ∷ []) (let same : j ≡ n = omega arith in same)
+column_rows-push rows j (c ∷ ds) d n e =
+    ap (λ vs. record { degree = neg_ℤ c; terms = column_terms j 0 rows } ∷ vs)
+    (column_rows-push rows (suc j) ds d n (omega arith))
 
-pub row_at-column_rows : (rows : List Vector) (j : ℕ) (ds : List ℤ) (k n : ℕ) → k < length ds → n ≡ j + k → row_at (column_rows rows j ds) k ≡ column_terms n 0 rows
+pub row_at-column_rows : (rows : List Vector) (j : ℕ) (ds : List ℤ) (k n : ℕ) → k < length ds → n ≡ j + k
+    → row_at (column_rows rows j ds) k ≡ column_terms n 0 rows
 row_at-column_rows rows j [] k n h e = absurd (omega arith)
 row_at-column_rows rows j (d ∷ ds) zero n h e = ap (λ m. column_terms m 0 rows) (let same : j ≡ n = omega arith in same)
 row_at-column_rows rows j (d ∷ ds) (suc k) n h e = row_at-column_rows rows (suc j) ds k n (omega arith) (omega arith)
@@ -48,7 +57,8 @@ module _ (ring : Ring) (rows : List Vector) where
   IsVector-columns front (d ∷ ds) j e h =
       let size : suc j ≡ length (front ++ d ∷ []) = rw length-append (omega arith) in (
         IsVector-column j ring (front ++ d ∷ ds) d rows (get_or_at front d ds (pos 0) j (sym e)) h,
-        IsVector-columns (front ++ d ∷ []) ds (suc j) size (subst (λ all. AllByRecursion (IsVector ring all) rows) (sym (append_assoc front (d ∷ []) ds)) h),
+        IsVector-columns (front ++ d ∷ []) ds (suc j) size
+            (subst (λ all. AllByRecursion (IsVector ring all) rows) (sym (append_assoc front (d ∷ []) ds)) h),
       )
 
 pub IsMatrix-transposed : (m : Matrix) → IsMatrix m → IsMatrix (transposed m)
@@ -58,13 +68,17 @@ pub row_degrees-transposed : (m : Matrix) → row_degrees (transposed m) ≡ map
 row_degrees-transposed m = degrees-column_rows m.rows 0 m.target
 
 -- the entry at (j, i) is the matrix's at (i, j)
-pub entry-transposed : (m : Matrix) → IsMatrix m → (i j : ℕ) → entry i (row_at (transposed m).rows j) ≡ entry j (row_at m.rows i)
+pub entry-transposed : (m : Matrix) → IsMatrix m → (i j : ℕ)
+    → entry i (row_at (transposed m).rows j) ≡ entry j (row_at m.rows i)
 entry-transposed m h i j =
     elim (cases_lt j (length m.target)) [
-      | inl inside ↦ ap (entry i) (row_at-column_rows m.rows 0 m.target j j inside (omega arith)) ∙ entry-column_terms j 0 m.rows i i (omega arith)
+      | inl inside ↦ ap (entry i) (row_at-column_rows m.rows 0 m.target j j inside (omega arith))
+          ∙ entry-column_terms j 0 m.rows i i (omega arith)
       | inr past ↦
-          let none : row_at (transposed m).rows j ≡ [] = row_at-past (column_rows m.rows 0 m.target) j (rw length-column_rows past) in
-          ap (entry i) none ∙ sym (entry-outside (length m.target) (row_at m.rows i) j (IsWithin-matrix_row m.ring m.target m.rows h i) past)
+          let none : row_at (transposed m).rows j ≡ [] =
+          row_at-past (column_rows m.rows 0 m.target) j (rw length-column_rows past) in
+          ap (entry i) none ∙ sym
+          (entry-outside (length m.target) (row_at m.rows i) j (IsWithin-matrix_row m.ring m.target m.rows h i) past)
     ]
 
 pub map-neg-neg : (ds : List ℤ) → map neg_ℤ (map neg_ℤ ds) ≡ ds
@@ -82,6 +96,8 @@ transposed-transposed m h =
 -- a row is the list of its entries, which are those of the transpose's rows
 pub row_at-entries : (m : Matrix) → IsMatrix m → (i : ℕ) → row_at m.rows i ≡ column_terms i 0 (transposed m).rows
 row_at-entries m h i =
-    let rows = AllByRecursion-weaken _ _ (λ v k. k.canonical.descending) (transposed m).rows (IsMatrix-transposed m h) in
-    same_from_entries m.ring.weights _ _ (IsCanonical-matrix_row m.ring m.target m.rows h i).descending (IsDescending-column_terms i m.ring.weights 0 (transposed m).rows rows)
+    let rows =
+    AllByRecursion-weaken _ _ (λ v k. k.canonical.descending) (transposed m).rows (IsMatrix-transposed m h) in
+    same_from_entries m.ring.weights _ _ (IsCanonical-matrix_row m.ring m.target m.rows h i).descending
+    (IsDescending-column_terms i m.ring.weights 0 (transposed m).rows rows)
     (λ j. sym (entry-column_terms i 0 (transposed m).rows j j (omega arith) ∙ entry-transposed m h i j))

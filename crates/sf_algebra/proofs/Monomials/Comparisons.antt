@@ -6,7 +6,8 @@ use Rattle.std.specs.declared.cmp.Ordering.TheVariants.{Less, Equal, Greater}
 use Rattle.std.specs.Ordering.{nat_cmp, ordering_then}
 
 -- where one comparison and then another find the first value greater, one of them does
-pub ordering_then-Greater : (o p : Ordering) → ordering_then o p ≡ Greater → (o ≡ Greater) ⊎ ((o ≡ Equal) × (p ≡ Greater))
+pub ordering_then-Greater : (o p : Ordering) → ordering_then o p ≡ Greater
+    → (o ≡ Greater) ⊎ ((o ≡ Equal) × (p ≡ Greater))
 ordering_then-Greater Less p e = cc
 ordering_then-Greater Equal p e = inr (refl, e)
 ordering_then-Greater Greater p e = inl refl

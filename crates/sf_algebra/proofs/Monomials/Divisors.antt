@@ -12,15 +12,19 @@ use Rattle.sf_algebra.proofs.Monomials.Orders.{monomial_cmp_total}
 use Rattle.sf_algebra.proofs.Monomials.Products.{monomial_degree-product}
 
 -- monomials with equal exponents are equal
-pub same_monomial : (a b : Monomial) → a.e1 ≡ b.e1 → a.e2 ≡ b.e2 → a.e3 ≡ b.e3 → a.e4 ≡ b.e4 → a.e5 ≡ b.e5 → a.e6 ≡ b.e6 → a ≡ b
+pub same_monomial : (a b : Monomial) → a.e1 ≡ b.e1 → a.e2 ≡ b.e2 → a.e3 ≡ b.e3 → a.e4 ≡ b.e4 → a.e5 ≡ b.e5 → a.e6 ≡ b.e6
+    → a ≡ b
 same_monomial a b p1 p2 p3 p4 p5 p6 = λ i. record { e1 = p1 i; e2 = p2 i; e3 = p3 i; e4 = p4 i; e5 = p5 i; e6 = p6 i }
 
 -- equal monomials have equal exponents
-pub same_exponents : (a b : Monomial) → a ≡ b → (a.e1 ≡ b.e1) × (a.e2 ≡ b.e2) × (a.e3 ≡ b.e3) × (a.e4 ≡ b.e4) × (a.e5 ≡ b.e5) × (a.e6 ≡ b.e6)
-same_exponents a b e = (ap (λ m. m.e1) e, ap (λ m. m.e2) e, ap (λ m. m.e3) e, ap (λ m. m.e4) e, ap (λ m. m.e5) e, ap (λ m. m.e6) e)
+pub same_exponents : (a b : Monomial) → a ≡ b
+    → (a.e1 ≡ b.e1) × (a.e2 ≡ b.e2) × (a.e3 ≡ b.e3) × (a.e4 ≡ b.e4) × (a.e5 ≡ b.e5) × (a.e6 ≡ b.e6)
+same_exponents a b e =
+    (ap (λ m. m.e1) e, ap (λ m. m.e2) e, ap (λ m. m.e3) e, ap (λ m. m.e4) e, ap (λ m. m.e5) e, ap (λ m. m.e6) e)
 
 pub product-quotient : (a b : Monomial) → Divides b a → product b (quotient a b) ≡ a
-product-quotient a b h = same_monomial _ a (omega arith) (omega arith) (omega arith) (omega arith) (omega arith) (omega arith)
+product-quotient a b h =
+    same_monomial _ a (omega arith) (omega arith) (omega arith) (omega arith) (omega arith) (omega arith)
 
 pub quotient-only : (a b c : Monomial) → product b c ≡ a → c ≡ quotient a b
 quotient-only a b c e =
@@ -48,7 +52,8 @@ pub Divides-trans : (a b c : Monomial) → Divides a b → Divides b c → Divid
 Divides-trans a b c h k = (omega arith, omega arith, omega arith, omega arith, omega arith, omega arith)
 
 pub Divides-antisymm : (a b : Monomial) → Divides a b → Divides b a → a ≡ b
-Divides-antisymm a b h k = same_monomial a b (omega arith) (omega arith) (omega arith) (omega arith) (omega arith) (omega arith)
+Divides-antisymm a b h k =
+    same_monomial a b (omega arith) (omega arith) (omega arith) (omega arith) (omega arith) (omega arith)
 
 -- what each exponent of a divisor adds to its degree
 abbrev HasSmallerParts : Weights → Monomial → Monomial → Type 0
@@ -71,7 +76,8 @@ tight : (w a b : ℕ) → 0 < w → a ≤ b → w * b ≤ w * a → a ≡ b
 tight w a b positive h k = let back = le_of_mul-le-mul_left k positive in omega arith
 
 -- a divisor of the same degree is the monomial itself
-Divides-same_degree : (weights : Weights) → IsPositive weights → (a b : Monomial) → Divides a b → monomial_degree weights b ≤ monomial_degree weights a → a ≡ b
+Divides-same_degree : (weights : Weights) → IsPositive weights → (a b : Monomial) → Divides a b
+    → monomial_degree weights b ≤ monomial_degree weights a → a ≡ b
 Divides-same_degree weights positive a b h k =
     let s = smaller_parts weights a b h in
     same_monomial a b
@@ -82,11 +88,13 @@ Divides-same_degree weights positive a b h k =
     (tight weights.w5 a.e5 b.e5 positive.fifth h.4 (omega arith))
     (tight weights.w6 a.e6 b.e6 positive.sixth h.5 (omega arith))
 
-pub Divides-monomial_cmp : (weights : Weights) → IsPositive weights → (a b : Monomial) → Divides a b → monomial_cmp weights a b ≢ Greater
+pub Divides-monomial_cmp : (weights : Weights) → IsPositive weights → (a b : Monomial) → Divides a b
+    → monomial_cmp weights a b ≢ Greater
 Divides-monomial_cmp weights positive a b h greater =
     elim (cases_lt (monomial_degree weights a) (monomial_degree weights b)) [
       | inl less ↦ let e = rw (nat_cmp-lt _ _ less) at greater in cc
-      | inr same ↦ let e = ap (monomial_cmp weights a) (Divides-same_degree weights positive a b h same) in let f = tied_itself (monomial_cmp_total weights) a in cc
+      | inr same ↦ let e =
+          ap (monomial_cmp weights a) (Divides-same_degree weights positive a b h same) in let f = tied_itself (monomial_cmp_total weights) a in cc
     ]
 
 pub lcm-multiple : (a b : Monomial) → Divides a (lcm a b) × Divides b (lcm a b)
@@ -97,15 +105,21 @@ pub lcm-least : (a b c : Monomial) → Divides a c → Divides b c → Divides (
 lcm-least a b c h k = (omega arith, omega arith, omega arith, omega arith, omega arith, omega arith)
 
 -- the degree of a divisor is not greater
-pub monomial_degree-Divides : (weights : Weights) (a b : Monomial) → Divides a b → monomial_degree weights a ≤ monomial_degree weights b
+pub monomial_degree-Divides : (weights : Weights) (a b : Monomial) → Divides a b
+    → monomial_degree weights a ≤ monomial_degree weights b
 monomial_degree-Divides weights a b h = let s = smaller_parts weights a b h in omega arith
 
 -- the least common multiple divides the product
 pub Divides-lcm_product : (a b : Monomial) → Divides (lcm a b) (product a b)
 Divides-lcm_product a b = (omega arith, omega arith, omega arith, omega arith, omega arith, omega arith)
 
-pub monomial_degree-lcm : (weights : Weights) (a b : Monomial) → monomial_degree weights (lcm a b) ≤ monomial_degree weights a + monomial_degree weights b
-monomial_degree-lcm weights a b = rw (← monomial_degree-product weights a b) (monomial_degree-Divides weights (lcm a b) (product a b) (Divides-lcm_product a b))
+pub monomial_degree-lcm : (weights : Weights) (a b : Monomial)
+    → monomial_degree weights (lcm a b) ≤ monomial_degree weights a + monomial_degree weights b
+monomial_degree-lcm weights a b =
+    rw (← monomial_degree-product weights a b)
+    (monomial_degree-Divides weights (lcm a b) (product a b) (Divides-lcm_product a b))
 
-pub lcm-sum : (weights : Weights) (a b : Monomial) → (monomial_degree weights a ≤ monomial_degree weights (lcm a b)) × (monomial_degree weights b ≤ monomial_degree weights (lcm a b))
+pub lcm-sum : (weights : Weights) (a b : Monomial)
+    → (monomial_degree weights a ≤ monomial_degree weights (lcm a b))
+    × (monomial_degree weights b ≤ monomial_degree weights (lcm a b))
 lcm-sum weights a b = let h = lcm-multiple a b in (monomial_degree-Divides weights a (lcm a b) h.0, monomial_degree-Divides weights b (lcm a b) h.1)

@@ -27,7 +27,9 @@ Agree-from a b k e rest j from below =
     ]
 
 -- where the exponents after place k agree, those at k decide, and then those before it
-last_from : (a b : Monomial) (k : ℕ) (before : Ordering) → k < VARIABLES → Agree a b (k + 1) → ordering_then (nat_cmp (exponent b k) (exponent a k)) before ≡ Greater → (Agree a b k → before ≡ Greater → IsSmallerInLastDifference a b) → IsSmallerInLastDifference a b
+last_from : (a b : Monomial) (k : ℕ) (before : Ordering) → k < VARIABLES → Agree a b (k + 1)
+    → ordering_then (nat_cmp (exponent b k) (exponent a k)) before ≡ Greater
+    → (Agree a b k → before ≡ Greater → IsSmallerInLastDifference a b) → IsSmallerInLastDifference a b
 last_from a b k before below agree greater go_on =
     elim (ordering_then-Greater _ _ greater) [
       | inl here ↦ (k, below, nat_cmp-Greater _ _ here, λ j after. agree j (omega arith))
@@ -56,7 +58,8 @@ IsSmallerInLastDifference-asymm a b h k =
       | inl before ↦ let e = h.3 k.0 before k.1 in let l = k.2 in omega arith
       | inr from ↦ elim (cases_lt k.0 h.0) [
         | inl after ↦ let e = k.3 h.0 after h.1 in let l = h.2 in omega arith
-        | inr to ↦ let same : h.0 ≡ k.0 = omega arith in let l = subst (λ i. exponent a i < exponent b i) same h.2 in let m = k.2 in omega arith
+        | inr to ↦ let same : h.0 ≡ k.0 =
+            omega arith in let l = subst (λ i. exponent a i < exponent b i) same h.2 in let m = k.2 in omega arith
       ]
     ]
 
@@ -76,5 +79,6 @@ words-monomial_cmp weights a b h =
     (λ equal. absurd (IsGreater-irrefl weights b (subst (λ m. IsGreater weights m b) (monomial_cmp-Equal weights a b equal) h)))
     (λ greater. greater)
 
-pub monomial_cmp-Greater : (weights : Weights) (a b : Monomial) → (monomial_cmp weights a b ≡ Greater) ↔ IsGreater weights a b
+pub monomial_cmp-Greater : (weights : Weights) (a b : Monomial)
+    → (monomial_cmp weights a b ≡ Greater) ↔ IsGreater weights a b
 monomial_cmp-Greater weights a b = (monomial_cmp-words weights a b, words-monomial_cmp weights a b)

@@ -17,7 +17,8 @@ ordering_cases Equal less equal greater = equal refl
 ordering_cases Greater less equal greater = greater refl
 
 -- a fact of what an ordering chooses, by what the ordering is
-pub match_ordering_cases : {A : Type 0} (o : Ordering) (a b c : A) (P : A → Type 0) → (o ≡ Less → P a) → (o ≡ Equal → P b) → (o ≡ Greater → P c) → P (match_ordering o a b c)
+pub match_ordering_cases : {A : Type 0} (o : Ordering) (a b c : A) (P : A → Type 0) → (o ≡ Less → P a)
+    → (o ≡ Equal → P b) → (o ≡ Greater → P c) → P (match_ordering o a b c)
 match_ordering_cases Less a b c P less equal greater = less refl
 match_ordering_cases Equal a b c P less equal greater = equal refl
 match_ordering_cases Greater a b c P less equal greater = greater refl
@@ -62,7 +63,8 @@ monomial_cmp_linear weights = record { total = monomial_cmp_total weights; apart
 
 pub place_cmp_total : (weights : Weights) → IsTotalOrder (place_cmp weights)
 place_cmp_total weights =
-    then_total (back_total (on_total (λ (a : Place). a.position) nat_cmp_total)) (on_total (λ (a : Place). a.monomial) (monomial_cmp_total weights))
+    then_total (back_total (on_total (λ (a : Place). a.position) nat_cmp_total))
+    (on_total (λ (a : Place). a.monomial) (monomial_cmp_total weights))
 
 pub place_cmp-Equal : (weights : Weights) (a b : Place) → place_cmp weights a b ≡ Equal → a ≡ b
 place_cmp-Equal weights a b e =

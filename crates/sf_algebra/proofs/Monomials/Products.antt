@@ -22,12 +22,15 @@ product-assoc a b c = simp add_assoc
 pub product-one_first : (a : Monomial) → product one a ≡ a
 product-one_first a = simp zero-add
 
-pub monomial_degree-product : (weights : Weights) (a b : Monomial) → monomial_degree weights (product a b) ≡ monomial_degree weights a + monomial_degree weights b
+pub monomial_degree-product : (weights : Weights) (a b : Monomial)
+    → monomial_degree weights (product a b) ≡ monomial_degree weights a + monomial_degree weights b
 monomial_degree-product weights a b = omega arith
 
 -- numbers compare as their sums with a third one do
 pub nat_cmp-add : (k m n : ℕ) → nat_cmp (k + m) (k + n) ≡ nat_cmp m n
 nat_cmp-add k m n = grind (arith, nat_tests)
 
-pub monomial_cmp-product : (weights : Weights) (c a b : Monomial) → monomial_cmp weights (product c a) (product c b) ≡ monomial_cmp weights a b
-monomial_cmp-product weights c a b = rw (monomial_degree-product weights c a, monomial_degree-product weights c b) (simp nat_cmp-add)
+pub monomial_cmp-product : (weights : Weights) (c a b : Monomial)
+    → monomial_cmp weights (product c a) (product c b) ≡ monomial_cmp weights a b
+monomial_cmp-product weights c a b =
+    rw (monomial_degree-product weights c a, monomial_degree-product weights c b) (simp nat_cmp-add)

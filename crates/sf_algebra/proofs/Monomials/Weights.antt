@@ -5,7 +5,8 @@ use Rattle.sf_algebra.specs.Monomials.{Monomial, VARIABLES, exponent_sum, monomi
 use Rattle.sf_algebra.specs.Rings.{Ring, Weights, IsPositive, IsRing, IsOverField, ones, plain, weight}
 
 -- a variable has its weight as its degree
-pub monomial_degree-variable : (weights : Weights) (i : ℕ) → i < VARIABLES → monomial_degree weights (variable i) ≡ weight weights i
+pub monomial_degree-variable : (weights : Weights) (i : ℕ) → i < VARIABLES
+    → monomial_degree weights (variable i) ≡ weight weights i
 monomial_degree-variable weights zero h = omega arith
 monomial_degree-variable weights (suc zero) h = omega arith
 monomial_degree-variable weights (suc (suc zero)) h = omega arith
@@ -19,7 +20,14 @@ pub degree_by_ones : (a : Monomial) → exponent_sum a ≡ monomial_degree ones 
 degree_by_ones a = omega arith
 
 pub ones_positive : IsPositive ones
-ones_positive = record { first = omega arith; second = omega arith; third = omega arith; fourth = omega arith; fifth = omega arith; sixth = omega arith }
+ones_positive = record {
+  first = omega arith;
+  second = omega arith;
+  third = omega arith;
+  fourth = omega arith;
+  fifth = omega arith;
+  sixth = omega arith;
+}
 
 pub plain_ring : (p : ℕ) → 0 < p → IsRing (plain p)
 plain_ring p positive = record { modulus = positive; weights = ones_positive }
@@ -28,7 +36,8 @@ part_at_least : (w e : ℕ) → 0 < w → e ≤ w * e
 part_at_least w e positive = let h = mul-le-mul_left e positive in grind arith
 
 -- a degree by positive weights is no less than the sum of the exponents
-pub exponent_sum-at_most : (weights : Weights) → IsPositive weights → (a : Monomial) → exponent_sum a ≤ monomial_degree weights a
+pub exponent_sum-at_most : (weights : Weights) → IsPositive weights → (a : Monomial)
+    → exponent_sum a ≤ monomial_degree weights a
 exponent_sum-at_most weights positive a =
     let h1 = part_at_least weights.w1 a.e1 positive.first in
     let h2 = part_at_least weights.w2 a.e2 positive.second in

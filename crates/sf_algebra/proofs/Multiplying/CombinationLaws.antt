@@ -22,11 +22,13 @@ module _ {C K : Type 0} (keys : Keys K) (p : ℕ) (positive : 0 < p) (monomial :
       → ((g : Term K → ℕ) → IsAdditive p g → total p (share keys.act p monomial row g) c ≡ total p g vs)
       → combination keys.cmp keys.act p monomial row c ≡ vs
   combination-same row c vs canonical same =
-      same_from_total keys.cmp keys.order p positive _ _ (IsCanonical-combination keys p monomial row positive c) canonical
+      same_from_total keys.cmp keys.order p positive _ _
+      (IsCanonical-combination keys p monomial row positive c) canonical
       (λ g additive. total-combination keys p monomial row g additive c ∙ same g additive)
 
   -- only the rows count that have a coefficient
-  pub combination-rows : (row other : C → List (Term K)) (c : List (Term C)) → AllByRecursion (λ t. row t.at ≡ other t.at) c
+  pub combination-rows : (row other : C → List (Term K)) (c : List (Term C))
+      → AllByRecursion (λ t. row t.at ≡ other t.at) c
       → combination keys.cmp keys.act p monomial row c ≡ combination keys.cmp keys.act p monomial other c
   combination-rows row other c same =
       combination-same row c _ (IsCanonical-combination keys p monomial other positive c)
@@ -41,7 +43,9 @@ module _ {C K : Type 0} (keys : Keys K) (p : ℕ) (positive : 0 < p) (monomial :
       (λ g additive. total-nil p (share keys.act p monomial row g) ∙ sym (total-nil p g))
 
   -- the combination with one coefficient
-  pub combination-one : (row : C → List (Term K)) (t : Term C) → combination keys.cmp keys.act p monomial row (t ∷ []) ≡ multiple keys.cmp keys.act p (factor monomial t) (row t.at)
+  pub combination-one : (row : C → List (Term K)) (t : Term C)
+      → combination keys.cmp keys.act p monomial row (t ∷ [])
+      ≡ multiple keys.cmp keys.act p (factor monomial t) (row t.at)
   combination-one row t =
       combination-same row (t ∷ []) _ (IsCanonical-multiple keys p positive (factor monomial t) (row t.at))
       (λ g additive.
@@ -53,7 +57,8 @@ module _ {C K : Type 0} (keys : Keys K) (p : ℕ) (positive : 0 < p) (monomial :
 
   -- the halves of the coefficients give the halves of the combination
   pub combination-append : (row : C → List (Term K)) (c d : List (Term C))
-      → combination keys.cmp keys.act p monomial row (c ++ d) ≡ add keys.cmp p (combination keys.cmp keys.act p monomial row c) (combination keys.cmp keys.act p monomial row d)
+      → combination keys.cmp keys.act p monomial row (c ++ d)
+      ≡ add keys.cmp p (combination keys.cmp keys.act p monomial row c) (combination keys.cmp keys.act p monomial row d)
   combination-append row c d =
       combination-same row (c ++ d) _ (IsCanonical-add keys.cmp keys.order p positive _ _)
       (λ g additive.
@@ -63,19 +68,27 @@ module _ {C K : Type 0} (keys : Keys K) (p : ℕ) (positive : 0 < p) (monomial :
 
   -- one coefficient more, in front
   pub combination-cons : (row : C → List (Term K)) (t : Term C) (c : List (Term C))
-      → combination keys.cmp keys.act p monomial row (t ∷ c) ≡ add keys.cmp p (multiple keys.cmp keys.act p (factor monomial t) (row t.at)) (combination keys.cmp keys.act p monomial row c)
+      → combination keys.cmp keys.act p monomial row (t ∷ c)
+      ≡ add keys.cmp p (multiple keys.cmp keys.act p (factor monomial t) (row t.at))
+      (combination keys.cmp keys.act p monomial row c)
   combination-cons row t c =
-      combination-append row (t ∷ []) c ∙ ap (λ us. add keys.cmp p us (combination keys.cmp keys.act p monomial row c)) (combination-one row t)
+      combination-append row (t ∷ []) c
+      ∙ ap (λ us. add keys.cmp p us (combination keys.cmp keys.act p monomial row c)) (combination-one row t)
 
   -- one coefficient more, behind, as a loop adds it
   pub combination-push : (row : C → List (Term K)) (c : List (Term C)) (t : Term C)
-      → combination keys.cmp keys.act p monomial row (c ++ t ∷ []) ≡ add keys.cmp p (combination keys.cmp keys.act p monomial row c) (multiple keys.cmp keys.act p (factor monomial t) (row t.at))
+      → combination keys.cmp keys.act p monomial row (c ++ t ∷ [])
+      ≡ add keys.cmp p (combination keys.cmp keys.act p monomial row c)
+      (multiple keys.cmp keys.act p (factor monomial t) (row t.at))
   combination-push row c t =
-      combination-append row c (t ∷ []) ∙ ap (add keys.cmp p (combination keys.cmp keys.act p monomial row c)) (combination-one row t)
+      combination-append row c (t ∷ [])
+      ∙ ap (add keys.cmp p (combination keys.cmp keys.act p monomial row c)) (combination-one row t)
 
   -- a combination of sums
   pub combination-add_rows : (row other : C → List (Term K)) (c : List (Term C))
-      → combination keys.cmp keys.act p monomial (λ k. add keys.cmp p (row k) (other k)) c ≡ add keys.cmp p (combination keys.cmp keys.act p monomial row c) (combination keys.cmp keys.act p monomial other c)
+      → combination keys.cmp keys.act p monomial (λ k. add keys.cmp p (row k) (other k)) c
+      ≡ add keys.cmp p (combination keys.cmp keys.act p monomial row c)
+      (combination keys.cmp keys.act p monomial other c)
   combination-add_rows row other c =
       combination-same (λ k. add keys.cmp p (row k) (other k)) c _ (IsCanonical-add keys.cmp keys.order p positive _ _)
       (λ g additive.
@@ -85,10 +98,13 @@ module _ {C K : Type 0} (keys : Keys K) (p : ℕ) (positive : 0 < p) (monomial :
       ∙ sym (total-add keys.cmp keys.order p g additive _ _))
 
 -- a combination with a sum of coefficients
-pub combination-add : {C K : Type 0} (places : Keys C) (keys : Keys K) (p : ℕ) (positive : 0 < p) (monomial : C → Monomial) (row : C → List (Term K)) (c d : List (Term C))
-    → combination keys.cmp keys.act p monomial row (add places.cmp p c d) ≡ add keys.cmp p (combination keys.cmp keys.act p monomial row c) (combination keys.cmp keys.act p monomial row d)
+pub combination-add : {C K : Type 0} (places : Keys C) (keys : Keys K) (p : ℕ) (positive : 0 < p)
+    (monomial : C → Monomial) (row : C → List (Term K)) (c d : List (Term C))
+    → combination keys.cmp keys.act p monomial row (add places.cmp p c d)
+    ≡ add keys.cmp p (combination keys.cmp keys.act p monomial row c) (combination keys.cmp keys.act p monomial row d)
 combination-add places keys p positive monomial row c d =
-    combination-same keys p positive monomial row (add places.cmp p c d) _ (IsCanonical-add keys.cmp keys.order p positive _ _)
+    combination-same keys p positive monomial row (add places.cmp p c d) _
+    (IsCanonical-add keys.cmp keys.order p positive _ _)
     (λ g additive.
     total-add places.cmp places.order p _ (share-additive keys p monomial row g additive) c d
     ∙ (λ i. sum_mod p (sym (total-combination keys p monomial row g additive c) i) (sym (total-combination keys p monomial row g additive d) i))

@@ -16,26 +16,34 @@ abbrev pub factor : {C : Type 0} → (C → Monomial) → Term C → Term Monomi
 factor monomial t = record { at = monomial t.at; coefficient = t.coefficient }
 
 -- the total over the terms that a coefficient of a combination gives
-abbrev pub share : {C K : Type 0} → (Monomial → K → K) → ℕ → (C → Monomial) → (C → List (Term K)) → (Term K → ℕ) → Term C → ℕ
+abbrev pub share : {C K : Type 0} → (Monomial → K → K) → ℕ → (C → Monomial) → (C → List (Term K)) → (Term K → ℕ)
+    → Term C → ℕ
 share act p monomial row g t = total p (λ u. g (term_product act p (factor monomial t) u)) (row t.at)
 
 module _ {C K : Type 0} (keys : Keys K) (p : ℕ) (monomial : C → Monomial) (row : C → List (Term K)) where
-  pub IsCanonical-combination : 0 < p → (c : List (Term C)) → IsCanonical keys.cmp p (combination keys.cmp keys.act p monomial row c)
+  pub IsCanonical-combination : 0 < p → (c : List (Term C))
+      → IsCanonical keys.cmp p (combination keys.cmp keys.act p monomial row c)
   unfolding combination
-  IsCanonical-combination positive c = IsCanonical-normal keys.cmp keys.order p positive (combination_terms keys.act p monomial row c)
+  IsCanonical-combination positive c =
+      IsCanonical-normal keys.cmp keys.order p positive (combination_terms keys.act p monomial row c)
 
   module _ (g : Term K → ℕ) (additive : IsAdditive p g) where
     pub share-additive : IsAdditive p (share keys.act p monomial row g)
-    share-additive = total-additive p (λ t u. g (term_product keys.act p (factor monomial t) u)) row (term_product-additive_first keys.act p g additive monomial)
+    share-additive =
+        total-additive p (λ t u. g (term_product keys.act p (factor monomial t) u)) row
+        (term_product-additive_first keys.act p g additive monomial)
 
-    pub total-combination : (c : List (Term C)) → total p g (combination keys.cmp keys.act p monomial row c) ≡ total p (share keys.act p monomial row g) c
+    pub total-combination : (c : List (Term C))
+        → total p g (combination keys.cmp keys.act p monomial row c) ≡ total p (share keys.act p monomial row g) c
     unfolding combination combination_terms
     total-combination c =
         total-normal keys.cmp keys.order p g additive (combination_terms keys.act p monomial row c)
         ∙ total-flat_map p g (λ t. map (term_product keys.act p (factor monomial t)) (row t.at)) c
-        ∙ total-same p _ _ c (λ t. ap (λ n. n % p) (total-map p g (term_product keys.act p (factor monomial t)) (row t.at)))
+        ∙ total-same p _ _ c
+        (λ t. ap (λ n. n % p) (total-map p g (term_product keys.act p (factor monomial t)) (row t.at)))
 
   -- the coefficient at k, by the shares of the coefficients there
   pub coefficient_at-combination : (k : K) (c : List (Term C))
-      → coefficient_at keys.cmp p k (combination keys.cmp keys.act p monomial row c) ≡ total p (share keys.act p monomial row (part_at keys.cmp k)) c
+      → coefficient_at keys.cmp p k (combination keys.cmp keys.act p monomial row c)
+      ≡ total p (share keys.act p monomial row (part_at keys.cmp k)) c
   coefficient_at-combination k c = total-combination (part_at keys.cmp k) (part_at-additive keys.cmp p k) c

@@ -24,24 +24,32 @@ term_product-comm p s t = λ i. record { at = product-comm s.at t.at i; coeffici
 
 module _ {K : Type 0} (keys : Keys K) (p : ℕ) where
   -- products of terms act one after the other
-  pub term_product-assoc : (s t : Term Monomial) (u : Term K) → term_product keys.act p (term_product product p s t) u ≡ term_product keys.act p s (term_product keys.act p t u)
+  pub term_product-assoc : (s t : Term Monomial) (u : Term K)
+      → term_product keys.act p (term_product product p s t) u ≡ term_product keys.act p s (term_product keys.act p t u)
   term_product-assoc s t u = λ i. record {
     at = keys.act_product s.at t.at u.at i;
     coefficient = product_mod-assoc p s.coefficient t.coefficient u.coefficient i;
   }
 
-  pub term_product-exchange : (s t : Term Monomial) (u : Term K) → term_product keys.act p s (term_product keys.act p t u) ≡ term_product keys.act p t (term_product keys.act p s u)
-  term_product-exchange s t u = sym (term_product-assoc s t u) ∙ ap (λ r. term_product keys.act p r u) (term_product-comm p s t) ∙ term_product-assoc t s u
+  pub term_product-exchange : (s t : Term Monomial) (u : Term K)
+      → term_product keys.act p s (term_product keys.act p t u)
+      ≡ term_product keys.act p t (term_product keys.act p s u)
+  term_product-exchange s t u =
+      sym (term_product-assoc s t u) ∙ ap (λ r. term_product keys.act p r u) (term_product-comm p s t)
+      ∙ term_product-assoc t s u
 
   -- the term 1 changes a coefficient by reducing it
-  pub term_product-one : (u : Term K) → term_product keys.act p one_term u ≡ record { at = u.at; coefficient = u.coefficient % p }
+  pub term_product-one : (u : Term K)
+      → term_product keys.act p one_term u ≡ record { at = u.at; coefficient = u.coefficient % p }
   term_product-one u = λ i. record {
     at = keys.act_one u.at i;
     coefficient = (product_mod-comm p 1 u.coefficient ∙ product_mod-one p u.coefficient) i;
   }
 
-  pub additive-term_product_one : (g : Term K → ℕ) → IsAdditive p g → (u : Term K) → g (term_product keys.act p one_term u) % p ≡ g u % p
-  additive-term_product_one g additive u = ap (λ t. g t % p) (term_product-one u) ∙ additive-reduced p g additive u.at u.coefficient
+  pub additive-term_product_one : (g : Term K → ℕ) → IsAdditive p g → (u : Term K)
+      → g (term_product keys.act p one_term u) % p ≡ g u % p
+  additive-term_product_one g additive u =
+      ap (λ t. g t % p) (term_product-one u) ∙ additive-reduced p g additive u.at u.coefficient
 
 module _ {K : Type 0} (keys : Keys K) (p : ℕ) (positive : 0 < p) where
   -- two multiples and the like are equal where all totals are
@@ -59,23 +67,30 @@ module _ {K : Type 0} (keys : Keys K) (p : ℕ) (positive : 0 < p) where
       (λ g additive. total-same p _ _ us (additive-term_product_one keys p g additive))
 
   -- multiples of multiples are multiples by products
-  pub multiple-multiple : (s t : Term Monomial) (us : List (Term K)) → multiple keys.cmp keys.act p s (multiple keys.cmp keys.act p t us) ≡ multiple keys.cmp keys.act p (term_product product p s t) us
+  pub multiple-multiple : (s t : Term Monomial) (us : List (Term K))
+      → multiple keys.cmp keys.act p s (multiple keys.cmp keys.act p t us)
+      ≡ multiple keys.cmp keys.act p (term_product product p s t) us
   multiple-multiple s t us =
-      multiple-same s (multiple keys.cmp keys.act p t us) _ (IsCanonical-multiple keys p positive (term_product product p s t) us)
+      multiple-same s (multiple keys.cmp keys.act p t us) _
+      (IsCanonical-multiple keys p positive (term_product product p s t) us)
       (λ g additive.
       total-multiple keys p _ (term_product-additive keys.act p g additive s) t us
       ∙ total-same p _ _ us (λ u. ap (λ v. g v % p) (sym (term_product-assoc keys p s t u)))
       ∙ sym (total-multiple keys p g additive (term_product product p s t) us))
 
   -- multiples by two terms, in either order
-  pub multiple-exchange : (s t : Term Monomial) (us : List (Term K)) → multiple keys.cmp keys.act p s (multiple keys.cmp keys.act p t us) ≡ multiple keys.cmp keys.act p t (multiple keys.cmp keys.act p s us)
+  pub multiple-exchange : (s t : Term Monomial) (us : List (Term K))
+      → multiple keys.cmp keys.act p s (multiple keys.cmp keys.act p t us)
+      ≡ multiple keys.cmp keys.act p t (multiple keys.cmp keys.act p s us)
   multiple-exchange s t us =
       multiple-multiple s t us
       ∙ ap (λ r. multiple keys.cmp keys.act p r us) (term_product-comm p s t)
       ∙ sym (multiple-multiple t s us)
 
   -- a multiple of a sum
-  pub multiple-add : (s : Term Monomial) (us vs : List (Term K)) → multiple keys.cmp keys.act p s (add keys.cmp p us vs) ≡ add keys.cmp p (multiple keys.cmp keys.act p s us) (multiple keys.cmp keys.act p s vs)
+  pub multiple-add : (s : Term Monomial) (us vs : List (Term K))
+      → multiple keys.cmp keys.act p s (add keys.cmp p us vs)
+      ≡ add keys.cmp p (multiple keys.cmp keys.act p s us) (multiple keys.cmp keys.act p s vs)
   multiple-add s us vs =
       multiple-same s (add keys.cmp p us vs) _ (IsCanonical-add keys.cmp keys.order p positive _ _)
       (λ g additive.
@@ -86,16 +101,19 @@ module _ {K : Type 0} (keys : Keys K) (p : ℕ) (positive : 0 < p) where
   -- a multiple by a sum of coefficients
   pub multiple-sum_mod : (a : Monomial) (x y : ℕ) (us : List (Term K))
       → multiple keys.cmp keys.act p (record { at = a; coefficient = sum_mod p x y }) us
-      ≡ add keys.cmp p (multiple keys.cmp keys.act p (record { at = a; coefficient = x }) us) (multiple keys.cmp keys.act p (record { at = a; coefficient = y }) us)
+      ≡ add keys.cmp p (multiple keys.cmp keys.act p (record { at = a; coefficient = x }) us)
+      (multiple keys.cmp keys.act p (record { at = a; coefficient = y }) us)
   multiple-sum_mod a x y us =
-      multiple-same (record { at = a; coefficient = sum_mod p x y }) us _ (IsCanonical-add keys.cmp keys.order p positive _ _)
+      multiple-same (record { at = a; coefficient = sum_mod p x y }) us _
+      (IsCanonical-add keys.cmp keys.order p positive _ _)
       (λ g additive.
       total-sum p _ _ _ us (λ u. (term_product-additive_first keys.act p g additive (λ b. b) u).at_sum a x y)
       ∙ (λ i. sum_mod p (sym (total-multiple keys p g additive (record { at = a; coefficient = x }) us) i) (sym (total-multiple keys p g additive (record { at = a; coefficient = y }) us) i))
       ∙ sym (total-add keys.cmp keys.order p g additive _ _))
 
   -- a multiple by 0
-  pub multiple-zero : (a : Monomial) (us : List (Term K)) → multiple keys.cmp keys.act p (record { at = a; coefficient = 0 }) us ≡ []
+  pub multiple-zero : (a : Monomial) (us : List (Term K))
+      → multiple keys.cmp keys.act p (record { at = a; coefficient = 0 }) us ≡ []
   multiple-zero a us =
       multiple-same (record { at = a; coefficient = 0 }) us [] (record { descending = tt; residues = tt })
       (λ g additive.

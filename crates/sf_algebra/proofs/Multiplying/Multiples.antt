@@ -21,7 +21,8 @@ module _ {K : Type 0} (act : Monomial → K → K) (p : ℕ) (g : Term K → ℕ
   }
 
   -- and in the first factor's, which stands at what has a monomial
-  pub term_product-additive_first : {C : Type 0} (monomial : C → Monomial) (t : Term K) → IsAdditive p (λ s. g (term_product act p (record { at = monomial s.at; coefficient = s.coefficient }) t))
+  pub term_product-additive_first : {C : Type 0} (monomial : C → Monomial) (t : Term K)
+      → IsAdditive p (λ s. g (term_product act p (record { at = monomial s.at; coefficient = s.coefficient }) t))
   term_product-additive_first monomial t = record {
     at_zero = λ k. ap (λ n. g (record { at = act (monomial k) t.at; coefficient = n }) % p) (product_mod-comm p 0 t.coefficient ∙ product_mod-zero p t.coefficient) ∙ additive.at_zero (act (monomial k) t.at);
     at_sum = λ k a b.
@@ -30,20 +31,25 @@ module _ {K : Type 0} (act : Monomial → K → K) (p : ℕ) (g : Term K → ℕ
         ∙ additive.at_sum (act (monomial k) t.at) _ _;
   }
 
-  pub total-map_term_product : (s : Term Monomial) (ts : List (Term K)) → total p g (map (term_product act p s) ts) ≡ total p (λ t. g (term_product act p s t)) ts
+  pub total-map_term_product : (s : Term Monomial) (ts : List (Term K))
+      → total p g (map (term_product act p s) ts) ≡ total p (λ t. g (term_product act p s t)) ts
   total-map_term_product s ts = total-map p g (term_product act p s) ts
 
 module _ {K : Type 0} (keys : Keys K) (p : ℕ) where
-  pub IsCanonical-multiple : 0 < p → (s : Term Monomial) (ts : List (Term K)) → IsCanonical keys.cmp p (multiple keys.cmp keys.act p s ts)
+  pub IsCanonical-multiple : 0 < p → (s : Term Monomial) (ts : List (Term K))
+      → IsCanonical keys.cmp p (multiple keys.cmp keys.act p s ts)
   unfolding multiple
-  IsCanonical-multiple positive s ts = IsCanonical-normal keys.cmp keys.order p positive (map (term_product keys.act p s) ts)
+  IsCanonical-multiple positive s ts =
+      IsCanonical-normal keys.cmp keys.order p positive (map (term_product keys.act p s) ts)
 
-  pub total-multiple : (g : Term K → ℕ) → IsAdditive p g → (s : Term Monomial) (ts : List (Term K)) → total p g (multiple keys.cmp keys.act p s ts) ≡ total p (λ t. g (term_product keys.act p s t)) ts
+  pub total-multiple : (g : Term K → ℕ) → IsAdditive p g → (s : Term Monomial) (ts : List (Term K))
+      → total p g (multiple keys.cmp keys.act p s ts) ≡ total p (λ t. g (term_product keys.act p s t)) ts
   unfolding multiple
   total-multiple g additive s ts =
       total-normal keys.cmp keys.order p g additive (map (term_product keys.act p s) ts)
       ∙ total-map p g (term_product keys.act p s) ts
 
   pub coefficient_at-multiple : (k : K) (s : Term Monomial) (us : List (Term K))
-      → coefficient_at keys.cmp p k (multiple keys.cmp keys.act p s us) ≡ total p (λ u. part_at keys.cmp k (term_product keys.act p s u)) us
+      → coefficient_at keys.cmp p k (multiple keys.cmp keys.act p s us)
+      ≡ total p (λ u. part_at keys.cmp k (term_product keys.act p s u)) us
   coefficient_at-multiple k s us = total-multiple (part_at keys.cmp k) (part_at-additive keys.cmp p k) s us

@@ -11,14 +11,16 @@ module _ {R : Type 0} (G : Group R) (N : G.V → Type 0) (sub : IsSub G N) where
   Mod-sym u v h = subst N (minus-difference G u v) (sub.has_minus (G.plus u (G.minus v)) h)
 
   pub Mod-trans : (u v w : G.V) → Mod G N u v → Mod G N v w → Mod G N u w
-  Mod-trans u v w h k = subst N (difference-difference G u v w) (sub.has_plus (G.plus u (G.minus v)) (G.plus v (G.minus w)) h k)
+  Mod-trans u v w h k =
+      subst N (difference-difference G u v w) (sub.has_plus (G.plus u (G.minus v)) (G.plus v (G.minus w)) h k)
 
   -- equal elements
   pub Mod-equal : (u v : G.V) → u ≡ v → Mod G N u v
   Mod-equal u v e = subst (λ w. Mod G N u w) e (Mod-refl u)
 
   pub Mod-plus : (u v w x : G.V) → Mod G N u w → Mod G N v x → Mod G N (G.plus u v) (G.plus w x)
-  Mod-plus u v w x h k = subst N (sym (plus-difference G u v w x)) (sub.has_plus (G.plus u (G.minus w)) (G.plus v (G.minus x)) h k)
+  Mod-plus u v w x h k =
+      subst N (sym (plus-difference G u v w x)) (sub.has_plus (G.plus u (G.minus w)) (G.plus v (G.minus x)) h k)
 
   pub Mod-minus : (u v : G.V) → Mod G N u v → Mod G N (G.minus u) (G.minus v)
   Mod-minus u v h =
@@ -27,7 +29,8 @@ module _ {R : Type 0} (G : Group R) (N : G.V → Type 0) (sub : IsSub G N) where
   pub Mod-act : (r : R) (u v : G.V) → Mod G N u v → Mod G N (G.act r u) (G.act r v)
   Mod-act r u v h = subst N (act-difference G r u v) (sub.has_act r (G.plus u (G.minus v)) h)
 
-  pub Mod-difference : (u v w x : G.V) → Mod G N u w → Mod G N v x → Mod G N (G.plus u (G.minus v)) (G.plus w (G.minus x))
+  pub Mod-difference : (u v w x : G.V) → Mod G N u w → Mod G N v x
+      → Mod G N (G.plus u (G.minus v)) (G.plus w (G.minus x))
   Mod-difference u v w x h k = Mod-plus u (G.minus v) w (G.minus x) h (Mod-minus v x k)
 
   -- the elements of N are those that are zero modulo N
@@ -46,11 +49,13 @@ module _ {R : Type 0} (G : Group R) (N : G.V → Type 0) (sub : IsSub G N) where
   Mod-add u v h = subst N (sym (plus-difference_first G u v)) h
 
 -- equality modulo a part is equality modulo the whole
-pub Mod-within : {R : Type 0} (G : Group R) (M N : G.V → Type 0) → IsWithin M N → (u v : G.V) → Mod G M u v → Mod G N u v
+pub Mod-within : {R : Type 0} (G : Group R) (M N : G.V → Type 0) → IsWithin M N → (u v : G.V) → Mod G M u v
+    → Mod G N u v
 Mod-within G M N within u v h = within (G.plus u (G.minus v)) h
 
 -- an element that is equal modulo a part to one of a subgroup is one of it
-pub Mod-part_inside : {R : Type 0} (G : Group R) (M N : G.V → Type 0) → IsSub G N → IsWithin M N → (u v : G.V) → Mod G M u v → N v → N u
+pub Mod-part_inside : {R : Type 0} (G : Group R) (M N : G.V → Type 0) → IsSub G N → IsWithin M N → (u v : G.V)
+    → Mod G M u v → N v → N u
 Mod-part_inside G M N sub within u v h k = Mod-inside G N sub u v (Mod-within G M N within u v h) k
 
 -- modulo zero alone only equal elements are equal
@@ -58,7 +63,8 @@ pub Mod-ZeroOf : {R : Type 0} (G : Group R) (u v : G.V) → Mod G (ZeroOf G) u v
 Mod-ZeroOf G u v h = difference-equal G u v h
 
 -- equal modulo a sum: an element of the first part may be added so that they are equal modulo the second
-pub Mod-SumOf : {R : Type 0} (G : Group R) (M N : G.V → Type 0) → (u v : G.V) → Mod G (SumOf G M N) u v → (m : G.V) × M m × Mod G N u (G.plus v m)
+pub Mod-SumOf : {R : Type 0} (G : Group R) (M N : G.V → Type 0) → (u v : G.V) → Mod G (SumOf G M N) u v
+    → (m : G.V) × M m × Mod G N u (G.plus v m)
 Mod-SumOf G M N u v h =
     let apart : G.plus u (G.minus (G.plus v h.0)) ≡ h.1 =
     ap (G.plus u) (minus-plus G v h.0)
@@ -69,7 +75,8 @@ Mod-SumOf G M N u v h =
 
 module _ {R : Type 0} (G H : Group R) (f : G.V → H.V) (map : IsMap G H f) where
   -- a map takes elements equal modulo M to elements equal modulo N, where it takes M into N
-  pub Mod-map : (M : G.V → Type 0) (N : H.V → Type 0) → IsWithin M (PreimageOf f N) → (u v : G.V) → Mod G M u v → Mod H N (f u) (f v)
+  pub Mod-map : (M : G.V → Type 0) (N : H.V → Type 0) → IsWithin M (PreimageOf f N) → (u v : G.V) → Mod G M u v
+      → Mod H N (f u) (f v)
   Mod-map M N within u v h = subst N (map-difference G H f map u v) (within (G.plus u (G.minus v)) h)
 
   -- the elements equal modulo a preimage are those whose images are equal

@@ -8,7 +8,8 @@ use Rattle.sf_algebra.proofs.Operators.Groups.{map-minus}
 use Rattle.sf_algebra.proofs.Operators.Quotients.{ActsOnQuotients, IsOneToOne, IsOnto}
 
 -- a relation of elements of Z and Y that sums, negatives and operators keep
-pub record IsCorrespondence {R : Type 0} (G H : Group R) (Z : G.V → Type 0) (Y : H.V → Type 0) (F : G.V → H.V → Type 0) : Type 0 where
+pub record IsCorrespondence {R : Type 0} (G H : Group R) (Z : G.V → Type 0) (Y : H.V → Type 0)
+    (F : G.V → H.V → Type 0) : Type 0 where
   pub first : (u : G.V) (w : H.V) → F u w → Z u
   pub second : (u : G.V) (w : H.V) → F u w → Y w
   pub sums : (u v : G.V) (w x : H.V) → F u w → F v x → F (G.plus u v) (H.plus w x)
@@ -29,7 +30,8 @@ converse F w u = F u w
 abbrev pub composite : {U V W : Type 0} → (U → V → Type 0) → (V → W → Type 0) → U → W → Type 0
 composite {V = V} F E u w = (v : V) × F u v × E v w
 
-module _ {R : Type 0} (G H : Group R) (Z B : G.V → Type 0) (Y A : H.V → Type 0) (F : G.V → H.V → Type 0) (f : IsCorrespondence G H Z Y F) where
+module _ {R : Type 0} (G H : Group R) (Z B : G.V → Type 0) (Y A : H.V → Type 0) (F : G.V → H.V → Type 0)
+    (f : IsCorrespondence G H Z Y F) where
   pub converse-correspondence : IsCorrespondence H G Y Z (converse F)
   converse-correspondence = record {
     first = λ w u h. f.second u w h;
@@ -41,32 +43,44 @@ module _ {R : Type 0} (G H : Group R) (Z B : G.V → Type 0) (Y A : H.V → Type
 
   -- equal elements are related to equal ones alone
   pub related-Mod : IsMapOfClasses Z B A F → (u v : G.V) (w x : H.V) → F u w → F v x → Mod G B u v → Mod H A w x
-  related-Mod m u v w x h k e = m.zero (G.plus u (G.minus v)) (H.plus w (H.minus x)) (f.sums u (G.minus v) w (H.minus x) h (f.negatives v x k)) e
+  related-Mod m u v w x h k e =
+      m.zero (G.plus u (G.minus v)) (H.plus w (H.minus x)) (f.sums u (G.minus v) w (H.minus x) h (f.negatives v x k)) e
 
   -- the image is well defined
-  pub image-Mod : (m : IsMapOfClasses Z B A F) → (u v : G.V) (h : Z u) (k : Z v) → Mod G B u v → Mod H A (m.image u h) (m.image v k)
+  pub image-Mod : (m : IsMapOfClasses Z B A F) → (u v : G.V) (h : Z u) (k : Z v) → Mod G B u v
+      → Mod H A (m.image u h) (m.image v k)
   image-Mod m u v h k e = related-Mod m u v (m.image u h) (m.image v k) (m.related u h) (m.related v k) e
 
   -- the image is the only one
-  pub image-only : IsSub G B → (m : IsMapOfClasses Z B A F) → (u : G.V) (w : H.V) (h : Z u) → F u w → Mod H A w (m.image u h)
+  pub image-only : IsSub G B → (m : IsMapOfClasses Z B A F) → (u : G.V) (w : H.V) (h : Z u) → F u w
+      → Mod H A w (m.image u h)
   image-only b m u w h k = related-Mod m u u w (m.image u h) k (m.related u h) (Mod-refl G B b u)
 
   -- and additive
-  pub image-plus : IsSub G B → (m : IsMapOfClasses Z B A F) → (u v : G.V) (h : Z u) (k : Z v) (l : Z (G.plus u v)) → Mod H A (H.plus (m.image u h) (m.image v k)) (m.image (G.plus u v) l)
-  image-plus b m u v h k l = image-only b m (G.plus u v) (H.plus (m.image u h) (m.image v k)) l (f.sums u v (m.image u h) (m.image v k) (m.related u h) (m.related v k))
+  pub image-plus : IsSub G B → (m : IsMapOfClasses Z B A F) → (u v : G.V) (h : Z u) (k : Z v) (l : Z (G.plus u v))
+      → Mod H A (H.plus (m.image u h) (m.image v k)) (m.image (G.plus u v) l)
+  image-plus b m u v h k l =
+      image-only b m (G.plus u v) (H.plus (m.image u h) (m.image v k)) l
+      (f.sums u v (m.image u h) (m.image v k) (m.related u h) (m.related v k))
 
-  pub image-act : IsSub G B → (m : IsMapOfClasses Z B A F) → (r : R) (u : G.V) (h : Z u) (k : Z (G.act r u)) → Mod H A (H.act r (m.image u h)) (m.image (G.act r u) k)
-  image-act b m r u h k = image-only b m (G.act r u) (H.act r (m.image u h)) k (f.multiples r u (m.image u h) (m.related u h))
+  pub image-act : IsSub G B → (m : IsMapOfClasses Z B A F) → (r : R) (u : G.V) (h : Z u) (k : Z (G.act r u))
+      → Mod H A (H.act r (m.image u h)) (m.image (G.act r u) k)
+  image-act b m r u h k =
+      image-only b m (G.act r u) (H.act r (m.image u h)) k (f.multiples r u (m.image u h) (m.related u h))
 
 -- there and back again
-pub image-image : {R : Type 0} (G H : Group R) (Z B : G.V → Type 0) (Y A : H.V → Type 0) (F : G.V → H.V → Type 0) → IsCorrespondence G H Z Y F → IsSub H A
-    → (m : IsMapOfClasses Z B A F) (n : IsMapOfClasses Y A B (converse F)) → (u : G.V) (h : Z u) (k : Y (m.image u h)) → Mod G B u (n.image (m.image u h) k)
+pub image-image : {R : Type 0} (G H : Group R) (Z B : G.V → Type 0) (Y A : H.V → Type 0) (F : G.V → H.V → Type 0)
+    → IsCorrespondence G H Z Y F → IsSub H A
+    → (m : IsMapOfClasses Z B A F) (n : IsMapOfClasses Y A B (converse F)) → (u : G.V) (h : Z u) (k : Y (m.image u h))
+    → Mod G B u (n.image (m.image u h) k)
 image-image G H Z B Y A F f a m n u h k =
     image-only H G Y A Z B (converse F) (converse-correspondence G H Z B Y A F f) a n (m.image u h) u k (m.related u h)
 
 -- one correspondence and then another
-module _ {R : Type 0} (G H K : Group R) (Z : G.V → Type 0) (Y : H.V → Type 0) (X : K.V → Type 0) (F : G.V → H.V → Type 0) (E : H.V → K.V → Type 0) where
-  pub composite-correspondence : IsCorrespondence G H Z Y F → IsCorrespondence H K Y X E → IsCorrespondence G K Z X (composite F E)
+module _ {R : Type 0} (G H K : Group R) (Z : G.V → Type 0) (Y : H.V → Type 0) (X : K.V → Type 0)
+    (F : G.V → H.V → Type 0) (E : H.V → K.V → Type 0) where
+  pub composite-correspondence : IsCorrespondence G H Z Y F → IsCorrespondence H K Y X E
+      → IsCorrespondence G K Z X (composite F E)
   composite-correspondence f e = record {
     first = λ u w h. f.first u h.0 h.1;
     second = λ u w h. e.second h.0 w h.2;
@@ -75,7 +89,8 @@ module _ {R : Type 0} (G H K : Group R) (Z : G.V → Type 0) (Y : H.V → Type 0
     multiples = λ r u w h. (H.act r h.0, f.multiples r u h.0 h.1, e.multiples r h.0 w h.2);
   }
 
-  pub composite-classes : (B : G.V → Type 0) (A : H.V → Type 0) (C : K.V → Type 0) → IsCorrespondence G H Z Y F → IsMapOfClasses Z B A F → IsMapOfClasses Y A C E → IsMapOfClasses Z B C (composite F E)
+  pub composite-classes : (B : G.V → Type 0) (A : H.V → Type 0) (C : K.V → Type 0) → IsCorrespondence G H Z Y F
+      → IsMapOfClasses Z B A F → IsMapOfClasses Y A C E → IsMapOfClasses Z B C (composite F E)
   composite-classes B A C f m n = record {
     image = λ u h. n.image (m.image u h) (f.second u (m.image u h) (m.related u h));
     related = λ u h. (m.image u h, m.related u h, n.related (m.image u h) (f.second u (m.image u h) (m.related u h)));
@@ -83,10 +98,12 @@ module _ {R : Type 0} (G H K : Group R) (Z : G.V → Type 0) (Y : H.V → Type 0
   }
 
 -- a map of groups as a relation: the second element is equal to the image of the first
-abbrev pub graph_of : {R : Type 0} {V : Type 0} (H : Group R) → (V → H.V) → (V → Type 0) → (H.V → Type 0) → (H.V → Type 0) → V → H.V → Type 0
+abbrev pub graph_of : {R : Type 0} {V : Type 0} (H : Group R) → (V → H.V) → (V → Type 0) → (H.V → Type 0)
+    → (H.V → Type 0) → V → H.V → Type 0
 graph_of H f Z Y A u w = Z u × Y w × Mod H A (f u) w
 
-module _ {R : Type 0} (G H : Group R) (f : G.V → H.V) (map : IsMap G H f) (Z B : G.V → Type 0) (Y A : H.V → Type 0) (z : IsSub G Z) (y : IsSub H Y) (a : IsSub H A) where
+module _ {R : Type 0} (G H : Group R) (f : G.V → H.V) (map : IsMap G H f) (Z B : G.V → Type 0) (Y A : H.V → Type 0)
+    (z : IsSub G Z) (y : IsSub H Y) (a : IsSub H A) where
   pub graph-correspondence : IsCorrespondence G H Z Y (graph_of H f Z Y A)
   graph-correspondence = record {
     first = λ u w h. h.0;

@@ -41,7 +41,8 @@ module _ {R : Type 0} (C : PassingMaps R) where
   BoundariesOf-sub = SumOf-sub C.middle (ImageOf C.arriving Whole) C.here arriving-sub C.here_sub
 
   pub arriving-BoundariesOf : (u : C.source.V) → BoundariesOf C (C.arriving u)
-  arriving-BoundariesOf u = within-SumOf_first C.middle (ImageOf C.arriving Whole) C.here arriving-sub C.here_sub (C.arriving u) (u, tt, refl)
+  arriving-BoundariesOf u =
+      within-SumOf_first C.middle (ImageOf C.arriving Whole) C.here arriving-sub C.here_sub (C.arriving u) (u, tt, refl)
 
   pub here-BoundariesOf : IsWithin C.here (BoundariesOf C)
   here-BoundariesOf = within-SumOf_second C.middle (ImageOf C.arriving Whole) C.here arriving-sub C.here_sub
@@ -51,16 +52,19 @@ module _ {R : Type 0} (C : PassingMaps R) where
   Mod-BoundariesOf u v h = Mod-within C.middle C.here (BoundariesOf C) here-BoundariesOf u v h
 
   -- a subgroup that has what arrives and the relations has the boundaries
-  pub BoundariesOf-within : (N : C.middle.V → Type 0) → IsSub C.middle N → ((u : C.source.V) → N (C.arriving u)) → IsWithin C.here N → IsWithin (BoundariesOf C) N
+  pub BoundariesOf-within : (N : C.middle.V → Type 0) → IsSub C.middle N → ((u : C.source.V) → N (C.arriving u))
+      → IsWithin C.here N → IsWithin (BoundariesOf C) N
   BoundariesOf-within N sub arrives relations =
-      SumOf-within C.middle (ImageOf C.arriving Whole) C.here N sub (ImageOf-within C.arriving Whole N (λ u h. arrives u)) relations
+      SumOf-within C.middle (ImageOf C.arriving Whole) C.here N sub
+      (ImageOf-within C.arriving Whole N (λ u h. arrives u)) relations
 
   -- boundaries are cycles
   pub boundaries-cycles : IsWithin (BoundariesOf C) (CyclesOf C)
   boundaries-cycles = BoundariesOf-within (CyclesOf C) CyclesOf-sub C.passing C.relations
 
 -- maps from three groups in a row to three others, which take relations to relations and meet the maps of the rows modulo relations
-pub record AreMapsOfPassingMaps {R : Type 0} (C D : PassingMaps R) (first : C.source.V → D.source.V) (second : C.middle.V → D.middle.V) (third : C.target.V → D.target.V) : Type 0 where
+pub record AreMapsOfPassingMaps {R : Type 0} (C D : PassingMaps R) (first : C.source.V → D.source.V)
+    (second : C.middle.V → D.middle.V) (third : C.target.V → D.target.V) : Type 0 where
   pub second_map : IsMap C.middle D.middle second
   pub third_map : IsMap C.target D.target third
   pub second_relations : IsWithin C.here (PreimageOf second D.here)
@@ -69,18 +73,22 @@ pub record AreMapsOfPassingMaps {R : Type 0} (C D : PassingMaps R) (first : C.so
   pub after : (v : C.middle.V) → Mod D.target D.beyond (third (C.leaving v)) (D.leaving (second v))
 
 module _ {R : Type 0} (C D : PassingMaps R) where
-  module _ (first : C.source.V → D.source.V) (second : C.middle.V → D.middle.V) (third : C.target.V → D.target.V) (f : AreMapsOfPassingMaps C D first second third) where
+  module _ (first : C.source.V → D.source.V) (second : C.middle.V → D.middle.V) (third : C.target.V → D.target.V)
+      (f : AreMapsOfPassingMaps C D first second third) where
     pub cycles-image : IsWithin (CyclesOf C) (PreimageOf second (CyclesOf D))
     cycles-image v h =
         Mod-inside D.target D.beyond D.beyond_sub (D.leaving (second v)) (third (C.leaving v))
-        (Mod-sym D.target D.beyond D.beyond_sub (third (C.leaving v)) (D.leaving (second v)) (f.after v)) (f.third_relations (C.leaving v) h)
+        (Mod-sym D.target D.beyond D.beyond_sub (third (C.leaving v)) (D.leaving (second v)) (f.after v))
+        (f.third_relations (C.leaving v) h)
 
     pub boundaries-image : IsWithin (BoundariesOf C) (PreimageOf second (BoundariesOf D))
     boundaries-image =
-        BoundariesOf-within C (PreimageOf second (BoundariesOf D)) (PreimageOf-sub C.middle D.middle second f.second_map (BoundariesOf D) (BoundariesOf-sub D))
+        BoundariesOf-within C (PreimageOf second (BoundariesOf D))
+        (PreimageOf-sub C.middle D.middle second f.second_map (BoundariesOf D) (BoundariesOf-sub D))
         (λ u.
         Mod-inside D.middle (BoundariesOf D) (BoundariesOf-sub D) (second (C.arriving u)) (D.arriving (first u))
-        (Mod-BoundariesOf D (second (C.arriving u)) (D.arriving (first u)) (f.before u)) (arriving-BoundariesOf D (first u)))
+        (Mod-BoundariesOf D (second (C.arriving u)) (D.arriving (first u)) (f.before u))
+        (arriving-BoundariesOf D (first u)))
         (λ v h. here-BoundariesOf D (second v) (f.second_relations v h))
 
     -- the map acts on homology
@@ -88,12 +96,15 @@ module _ {R : Type 0} (C D : PassingMaps R) where
     homology-acts = record { elements = cycles-image; bounds = boundaries-image }
 
   -- maps that differ by what arrives, and by what depends on what leaves, do the same on homology
-  pub homology-homotopic : (f g : C.middle.V → D.middle.V) (s : C.middle.V → D.source.V) (t : C.target.V → D.middle.V) → IsWithin C.beyond (PreimageOf t D.here)
-      → ((v : C.middle.V) → Mod D.middle D.here (f v) (D.middle.plus (g v) (D.middle.plus (D.arriving (s v)) (t (C.leaving v)))))
+  pub homology-homotopic : (f g : C.middle.V → D.middle.V) (s : C.middle.V → D.source.V) (t : C.target.V → D.middle.V)
+      → IsWithin C.beyond (PreimageOf t D.here)
+      → ((v : C.middle.V) → Mod D.middle D.here (f v)
+      (D.middle.plus (g v) (D.middle.plus (D.arriving (s v)) (t (C.leaving v)))))
       → (v : C.middle.V) → CyclesOf C v → Mod D.middle (BoundariesOf D) (f v) (g v)
   homology-homotopic f g s t relations differ v h =
       let sub = BoundariesOf-sub D in
       let more = D.middle.plus (D.arriving (s v)) (t (C.leaving v)) in
-      Mod-trans D.middle (BoundariesOf D) sub (f v) (D.middle.plus (g v) more) (g v) (Mod-BoundariesOf D (f v) (D.middle.plus (g v) more) (differ v))
+      Mod-trans D.middle (BoundariesOf D) sub (f v) (D.middle.plus (g v) more) (g v)
+      (Mod-BoundariesOf D (f v) (D.middle.plus (g v) more) (differ v))
       (Mod-add D.middle (BoundariesOf D) sub (g v) more
       (sub.has_plus (D.arriving (s v)) (t (C.leaving v)) (arriving-BoundariesOf D (s v)) (here-BoundariesOf D (t (C.leaving v)) (relations (C.leaving v) h))))

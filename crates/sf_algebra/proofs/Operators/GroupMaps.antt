@@ -6,7 +6,8 @@ use Rattle.sf_algebra.proofs.Operators.Groups.{exchange, minus-plus, act-minus, 
 pub IsMap-id : {R : Type 0} (G : Group R) → IsMap G G (λ u. u)
 IsMap-id G = record { to_plus = λ u v. refl; to_act = λ r u. refl }
 
-pub IsMap-after : {R : Type 0} (G H K : Group R) (f : G.V → H.V) (g : H.V → K.V) → IsMap G H f → IsMap H K g → IsMap G K (λ u. g (f u))
+pub IsMap-after : {R : Type 0} (G H K : Group R) (f : G.V → H.V) (g : H.V → K.V) → IsMap G H f → IsMap H K g
+    → IsMap G K (λ u. g (f u))
 IsMap-after G H K f g m n = record {
   to_plus = λ u v. ap g (m.to_plus u v) ∙ n.to_plus (f u) (f v);
   to_act = λ r u. ap g (m.to_act r u) ∙ n.to_act r (f u);

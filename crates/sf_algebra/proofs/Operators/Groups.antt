@@ -50,11 +50,14 @@ module _ {R : Type 0} (G : Group R) where
   minus-difference u v = minus-plus u (G.minus v) ∙ ap (G.plus (G.minus u)) (minus-minus v) ∙ G.comm (G.minus u) v
 
   -- two differences one after the other
-  pub difference-difference : (u v w : G.V) → G.plus (G.plus u (G.minus v)) (G.plus v (G.minus w)) ≡ G.plus u (G.minus w)
-  difference-difference u v w = G.assoc u (G.minus v) (G.plus v (G.minus w)) ∙ ap (G.plus u) (minus-plus_plus v (G.minus w))
+  pub difference-difference : (u v w : G.V)
+      → G.plus (G.plus u (G.minus v)) (G.plus v (G.minus w)) ≡ G.plus u (G.minus w)
+  difference-difference u v w =
+      G.assoc u (G.minus v) (G.plus v (G.minus w)) ∙ ap (G.plus u) (minus-plus_plus v (G.minus w))
 
   -- a difference of sums
-  pub plus-difference : (u v w x : G.V) → G.plus (G.plus u v) (G.minus (G.plus w x)) ≡ G.plus (G.plus u (G.minus w)) (G.plus v (G.minus x))
+  pub plus-difference : (u v w x : G.V)
+      → G.plus (G.plus u v) (G.minus (G.plus w x)) ≡ G.plus (G.plus u (G.minus w)) (G.plus v (G.minus x))
   plus-difference u v w x = ap (G.plus (G.plus u v)) (minus-plus w x) ∙ exchange u v (G.minus w) (G.minus x)
 
   -- a difference and what was taken away
@@ -63,7 +66,8 @@ module _ {R : Type 0} (G : Group R) where
 
   -- a sum less its first term
   pub plus-difference_first : (u v : G.V) → G.plus (G.plus u v) (G.minus u) ≡ v
-  plus-difference_first u v = ap (λ x. G.plus x (G.minus u)) (G.comm u v) ∙ G.assoc v u (G.minus u) ∙ ap (G.plus v) (G.inverse u) ∙ G.unit v
+  plus-difference_first u v =
+      ap (λ x. G.plus x (G.minus u)) (G.comm u v) ∙ G.assoc v u (G.minus u) ∙ ap (G.plus v) (G.inverse u) ∙ G.unit v
 
   -- elements with the difference zero are equal
   pub difference-equal : (u v : G.V) → G.plus u (G.minus v) ≡ G.zero → u ≡ v
@@ -72,17 +76,22 @@ module _ {R : Type 0} (G : Group R) where
   -- what an additive operation does to zero and negatives
   pub act-zero : (r : R) → G.act r G.zero ≡ G.zero
   act-zero r =
-      plus-cancel (G.act r G.zero) (G.act r G.zero) G.zero (sym (G.act_plus r G.zero G.zero) ∙ ap (G.act r) (G.unit G.zero) ∙ sym (G.unit (G.act r G.zero)))
+      plus-cancel (G.act r G.zero) (G.act r G.zero) G.zero
+      (sym (G.act_plus r G.zero G.zero) ∙ ap (G.act r) (G.unit G.zero) ∙ sym (G.unit (G.act r G.zero)))
 
   pub act-minus : (r : R) (u : G.V) → G.act r (G.minus u) ≡ G.minus (G.act r u)
-  act-minus r u = minus_only (G.act r u) (G.act r (G.minus u)) (sym (G.act_plus r u (G.minus u)) ∙ ap (G.act r) (G.inverse u) ∙ act-zero r)
+  act-minus r u =
+      minus_only (G.act r u) (G.act r (G.minus u))
+      (sym (G.act_plus r u (G.minus u)) ∙ ap (G.act r) (G.inverse u) ∙ act-zero r)
 
   pub act-difference : (r : R) (u v : G.V) → G.act r (G.plus u (G.minus v)) ≡ G.plus (G.act r u) (G.minus (G.act r v))
   act-difference r u v = G.act_plus r u (G.minus v) ∙ ap (G.plus (G.act r u)) (act-minus r v)
 
 module _ {R : Type 0} (G H : Group R) (f : G.V → H.V) (map : IsMap G H f) where
   pub map-zero : f G.zero ≡ H.zero
-  map-zero = plus-cancel H (f G.zero) (f G.zero) H.zero (sym (map.to_plus G.zero G.zero) ∙ ap f (G.unit G.zero) ∙ sym (H.unit (f G.zero)))
+  map-zero =
+      plus-cancel H (f G.zero) (f G.zero) H.zero
+      (sym (map.to_plus G.zero G.zero) ∙ ap f (G.unit G.zero) ∙ sym (H.unit (f G.zero)))
 
   pub map-minus : (u : G.V) → f (G.minus u) ≡ H.minus (f u)
   map-minus u = minus_only H (f u) (f (G.minus u)) (sym (map.to_plus u (G.minus u)) ∙ ap f (G.inverse u) ∙ map-zero)

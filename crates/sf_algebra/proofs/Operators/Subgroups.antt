@@ -105,10 +105,12 @@ module _ {R : Type 0} (G H : Group R) (f : G.V → H.V) (map : IsMap G H f) wher
       (G.plus a.0 b.0, (a.0, b.0, a.1, b.1, refl), map.to_plus a.0 b.0 ∙ (λ i. H.plus (a.2 i) (b.2 i)) ∙ h.4)
 
 -- an image lies in N where what it is the image of lies in the preimage of N
-pub ImageOf-within : {V W : Type 0} (f : V → W) (M : V → Type 0) (N : W → Type 0) → IsWithin M (PreimageOf f N) → IsWithin (ImageOf f M) N
+pub ImageOf-within : {V W : Type 0} (f : V → W) (M : V → Type 0) (N : W → Type 0) → IsWithin M (PreimageOf f N)
+    → IsWithin (ImageOf f M) N
 ImageOf-within f M N within w h = subst N h.2 (within h.0 h.1)
 
-pub within-PreimageOf : {V W : Type 0} (f : V → W) (M : V → Type 0) (N : W → Type 0) → IsWithin (ImageOf f M) N → IsWithin M (PreimageOf f N)
+pub within-PreimageOf : {V W : Type 0} (f : V → W) (M : V → Type 0) (N : W → Type 0) → IsWithin (ImageOf f M) N
+    → IsWithin M (PreimageOf f N)
 within-PreimageOf f M N within v h = within (f v) (v, h, refl)
 
 pub IsWithin-trans : {V : Type 0} (L M N : V → Type 0) → IsWithin L M → IsWithin M N → IsWithin L N

@@ -23,7 +23,8 @@ neg-plus d (e ∷ es) = λ i. neg_ℤ-+ℤ d e i ∷ neg-plus d es i
 -- the negatives of sums are the sums of negatives
 pub degree_sums-neg : (ds es : List ℤ) → map neg_ℤ (degree_sums ds es) ≡ degree_sums (map neg_ℤ ds) (map neg_ℤ es)
 degree_sums-neg [] es = refl
-degree_sums-neg (d ∷ ds) es = map-append neg_ℤ (map (λ e. d +ℤ e) es) (degree_sums ds es) ∙ (λ i. neg-plus d es i ++ degree_sums-neg ds es i)
+degree_sums-neg (d ∷ ds) es =
+    map-append neg_ℤ (map (λ e. d +ℤ e) es) (degree_sums ds es) ∙ (λ i. neg-plus d es i ++ degree_sums-neg ds es i)
 
 pub length-kronecker : (a b : Matrix) → length (kronecker a b).rows ≡ length a.rows * length b.rows
 length-kronecker a b =
@@ -35,15 +36,19 @@ length-kronecker a b =
 -- where the second matrix has no rows, or no columns, there are no entries
 no_rows : (a b : Matrix) (i j : ℕ) → length b.rows ≡ 0 → entry j (row_at (kronecker a b).rows i) ≡ []
 no_rows a b i j none =
-    let size : length (kronecker a b).rows ≡ 0 = length-kronecker a b ∙ ap (λ n. length a.rows * n) none ∙ mul-zero (length a.rows) in
+    let size : length (kronecker a b).rows ≡ 0 =
+    length-kronecker a b ∙ ap (λ n. length a.rows * n) none ∙ mul-zero (length a.rows) in
     ap (entry j) (row_at-past (kronecker a b).rows i (omega arith))
 
-no_columns : (a b : Matrix) (i j : ℕ) → IsMatrix (kronecker a b) → length b.target ≡ 0 → entry j (row_at (kronecker a b).rows i) ≡ []
+no_columns : (a b : Matrix) (i j : ℕ) → IsMatrix (kronecker a b) → length b.target ≡ 0
+    → entry j (row_at (kronecker a b).rows i) ≡ []
 no_columns a b i j h none =
     let size : length (degree_sums a.target b.target) ≡ 0 = length-degree_sums a.target b.target ∙ ap (λ n. length a.target * n) none ∙ mul-zero (length a.target) in
-    entry-outside _ (row_at (kronecker a b).rows i) j (IsWithin-matrix_row a.ring (degree_sums a.target b.target) (kronecker a b).rows h i) (omega arith)
+    entry-outside _ (row_at (kronecker a b).rows i) j
+    (IsWithin-matrix_row a.ring (degree_sums a.target b.target) (kronecker a b).rows h i) (omega arith)
 
-module _ (a b : Matrix) (positive : 0 < a.ring.modulus) (rings : a.ring ≡ b.ring) (h : IsMatrix a) (k : IsMatrix b) where
+module _ (a b : Matrix) (positive : 0 < a.ring.modulus) (rings : a.ring ≡ b.ring) (h : IsMatrix a)
+    (k : IsMatrix b) where
   columns : length (transposed b).rows ≡ length b.target
   columns = length-column_rows b.rows 0 b.target
 
@@ -52,14 +57,16 @@ module _ (a b : Matrix) (positive : 0 < a.ring.modulus) (rings : a.ring ≡ b.ri
 
   -- the entries at pairs of numbers
   pairs : (i r j c : ℕ) → r < length b.rows → c < length b.target
-      → entry (j * length b.target + c) (row_at (kronecker a b).rows (i * length b.rows + r)) ≡ entry (i * length b.rows + r) (row_at (kronecker (transposed a) (transposed b)).rows (j * length b.target + c))
+      → entry (j * length b.target + c) (row_at (kronecker a b).rows (i * length b.rows + r))
+      ≡ entry (i * length b.rows + r) (row_at (kronecker (transposed a) (transposed b)).rows (j * length b.target + c))
   pairs i r j c row column =
       entry-kronecker a b positive k i r j c row column
       ∙ (λ l. polynomial_product a.ring (sym (entry-transposed a h i j) l) (sym (entry-transposed b k r c) l))
       ∙ sym (entry-kronecker (transposed a) (transposed b) positive (IsMatrix-transposed b k) j c i r (rw columns column) (rw rows row))
       ∙ (λ l. entry (i * rows l + r) (row_at (kronecker (transposed a) (transposed b)).rows (j * columns l + c)))
 
-  entries : (m n : ℕ) → entry n (row_at (kronecker a b).rows m) ≡ entry m (row_at (kronecker (transposed a) (transposed b)).rows n)
+  entries : (m n : ℕ) → entry n (row_at (kronecker a b).rows m)
+      ≡ entry m (row_at (kronecker (transposed a) (transposed b)).rows n)
   entries m n =
       let ta = IsMatrix-transposed a h in
       let tb = IsMatrix-transposed b k in

@@ -10,7 +10,8 @@ use Rattle.sf_algebra.proofs.Terms.Totals.{IsAdditive, total-nil, total-cons, to
 
 module _ {K : Type 0} (p : ℕ) where
   -- numbers that agree modulo p at each term of the list
-  pub total-each : (f g : Term K → ℕ) (ts : List (Term K)) → AllByRecursion (λ t. f t % p ≡ g t % p) ts → total p f ts ≡ total p g ts
+  pub total-each : (f g : Term K → ℕ) (ts : List (Term K)) → AllByRecursion (λ t. f t % p ≡ g t % p) ts
+      → total p f ts ≡ total p g ts
   total-each f g [] same = total-nil p f ∙ sym (total-nil p g)
   total-each f g (t ∷ ts) same =
       total-cons p f t ts
@@ -20,7 +21,8 @@ module _ {K : Type 0} (p : ℕ) where
       ∙ sym (total-cons p g t ts)
 
   -- numbers that agree modulo p
-  pub total-same : (f g : Term K → ℕ) (ts : List (Term K)) → ((t : Term K) → f t % p ≡ g t % p) → total p f ts ≡ total p g ts
+  pub total-same : (f g : Term K → ℕ) (ts : List (Term K)) → ((t : Term K) → f t % p ≡ g t % p)
+      → total p f ts ≡ total p g ts
   total-same f g [] same = total-nil p f ∙ sym (total-nil p g)
   total-same f g (t ∷ ts) same =
       total-cons p f t ts
@@ -39,8 +41,11 @@ module _ {K : Type 0} (p : ℕ) where
       ∙ zero-mod p
 
   -- numbers each of which is a sum
-  pub total-sum : (f g h : Term K → ℕ) (ts : List (Term K)) → ((t : Term K) → f t % p ≡ sum_mod p (g t) (h t)) → total p f ts ≡ sum_mod p (total p g ts) (total p h ts)
-  total-sum f g h [] sums = total-nil p f ∙ sym (sum_mod-zero p 0 ∙ zero-mod p) ∙ (λ i. sum_mod p (sym (total-nil p g) i) (sym (total-nil p h) i))
+  pub total-sum : (f g h : Term K → ℕ) (ts : List (Term K)) → ((t : Term K) → f t % p ≡ sum_mod p (g t) (h t))
+      → total p f ts ≡ sum_mod p (total p g ts) (total p h ts)
+  total-sum f g h [] sums =
+      total-nil p f ∙ sym (sum_mod-zero p 0 ∙ zero-mod p)
+      ∙ (λ i. sum_mod p (sym (total-nil p g) i) (sym (total-nil p h) i))
   total-sum f g h (t ∷ ts) sums =
       total-cons p f t ts
       ∙ sym (sum_mod-first p (f t) _)
@@ -48,14 +53,16 @@ module _ {K : Type 0} (p : ℕ) where
       ∙ sum_mod-exchange p (g t) (h t) (total p g ts) (total p h ts)
       ∙ (λ i. sum_mod p (sym (total-cons p g t ts) i) (sym (total-cons p h t ts) i))
 
-  pub total-map : {L : Type 0} (g : Term K → ℕ) (f : Term L → Term K) (ts : List (Term L)) → total p g (map f ts) ≡ total p (λ t. g (f t)) ts
+  pub total-map : {L : Type 0} (g : Term K → ℕ) (f : Term L → Term K) (ts : List (Term L))
+      → total p g (map f ts) ≡ total p (λ t. g (f t)) ts
   total-map g f [] = total-nil p g ∙ sym (total-nil p (λ t. g (f t)))
   total-map g f (t ∷ ts) =
       total-cons p g (f t) (map f ts)
       ∙ ap (sum_mod p (g (f t))) (total-map g f ts)
       ∙ sym (total-cons p (λ t. g (f t)) t ts)
 
-  pub total-flat_map : {L : Type 0} (g : Term K → ℕ) (f : Term L → List (Term K)) (ts : List (Term L)) → total p g (flat_map f ts) ≡ total p (λ t. total p g (f t)) ts
+  pub total-flat_map : {L : Type 0} (g : Term K → ℕ) (f : Term L → List (Term K)) (ts : List (Term L))
+      → total p g (flat_map f ts) ≡ total p (λ t. total p g (f t)) ts
   total-flat_map g f [] = total-nil p g ∙ sym (total-nil p (λ t. total p g (f t)))
   total-flat_map g f (t ∷ ts) =
       total-append p g (f t) (flat_map f ts)
@@ -63,7 +70,8 @@ module _ {K : Type 0} (p : ℕ) where
       ∙ sym (total-cons p (λ t. total p g (f t)) t ts)
 
 -- the sums of a double sum may be exchanged
-pub total_exchange : {K L : Type 0} (p : ℕ) (h : Term K → Term L → ℕ) (ts : List (Term K)) (us : List (Term L)) → total p (λ t. total p (h t) us) ts ≡ total p (λ u. total p (λ t. h t u) ts) us
+pub total_exchange : {K L : Type 0} (p : ℕ) (h : Term K → Term L → ℕ) (ts : List (Term K)) (us : List (Term L))
+    → total p (λ t. total p (h t) us) ts ≡ total p (λ u. total p (λ t. h t u) ts) us
 total_exchange p h [] us =
     total-nil p (λ t. total p (h t) us)
     ∙ sym (total-zero p (λ u. total p (λ t. h t u) []) us (λ u. ap (λ n. n % p) (total-nil p (λ t. h t u)) ∙ zero-mod p))
@@ -73,7 +81,8 @@ total_exchange p h (t ∷ ts) us =
     ∙ sym (total-sum p (λ u. total p (λ t. h t u) (t ∷ ts)) (h t) (λ u. total p (λ t. h t u) ts) us (λ u. total-reduced p (λ t. h t u) (t ∷ ts) ∙ total-cons p (λ t. h t u) t ts))
 
 -- a sum over a list of numbers each of which is additive in the coefficient is so too
-pub total-additive : {K L : Type 0} (p : ℕ) (h : Term K → Term L → ℕ) (us : K → List (Term L)) → ((u : Term L) → IsAdditive p (λ t. h t u)) → IsAdditive p (λ t. total p (h t) (us t.at))
+pub total-additive : {K L : Type 0} (p : ℕ) (h : Term K → Term L → ℕ) (us : K → List (Term L))
+    → ((u : Term L) → IsAdditive p (λ t. h t u)) → IsAdditive p (λ t. total p (h t) (us t.at))
 total-additive p h us additive = record {
   at_zero = λ k. total-reduced p _ (us k) ∙ total-zero p _ (us k) (λ u. (additive u).at_zero k);
   at_sum = λ k a b. total-reduced p _ (us k) ∙ total-sum p _ _ _ (us k) (λ u. (additive u).at_sum k a b);

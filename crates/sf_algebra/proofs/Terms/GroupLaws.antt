@@ -8,5 +8,7 @@ use Rattle.sf_algebra.proofs.Terms.Coefficients.{part_at-additive}
 use Rattle.sf_algebra.proofs.Terms.Totals.{total-add}
 
 pub coefficient_at-add : {K : Type 0} (keys : Keys K) (p : ℕ) (k : K) (us vs : List (Term K))
-    → coefficient_at keys.cmp p k (add keys.cmp p us vs) ≡ sum_mod p (coefficient_at keys.cmp p k us) (coefficient_at keys.cmp p k vs)
-coefficient_at-add keys p k us vs = total-add keys.cmp keys.order p (part_at keys.cmp k) (part_at-additive keys.cmp p k) us vs
+    → coefficient_at keys.cmp p k (add keys.cmp p us vs)
+    ≡ sum_mod p (coefficient_at keys.cmp p k us) (coefficient_at keys.cmp p k vs)
+coefficient_at-add keys p k us vs =
+    total-add keys.cmp keys.order p (part_at keys.cmp k) (part_at-additive keys.cmp p k) us vs

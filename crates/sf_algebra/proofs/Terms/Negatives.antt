@@ -20,7 +20,8 @@ use Rattle.sf_algebra.proofs.Terms.Totals.{IsAdditive, total-add, total-cons, to
 
 -- the negative of 1 is a factor that makes negatives
 pub product_mod-negative_one : (p a : ℕ) → 0 < p → a < p → product_mod p (negative_mod p 1) a ≡ negative_mod p a
-product_mod-negative_one p zero positive below = product_mod-zero p (negative_mod p 1) ∙ sym (negative_mod-zero p 0 refl)
+product_mod-negative_one p zero positive below =
+    product_mod-zero p (negative_mod p 1) ∙ sym (negative_mod-zero p 0 refl)
 product_mod-negative_one p (suc a) positive below =
     product_mod-comm p (negative_mod p 1) (suc a)
     ∙ sym (product_mod-reduced p (suc a) (negative_mod p 1))
@@ -41,7 +42,8 @@ negative_mod-negative p a positive below =
     ∙ negative_mod-positive p (p - a) (omega arith) (omega arith)
     ∙ omega arith
 
-pub EachPlace-negative : {K : Type 0} (P : K → Type 0) (p : ℕ) (us : List (Term K)) → EachPlace P us → EachPlace P (negative p us)
+pub EachPlace-negative : {K : Type 0} (P : K → Type 0) (p : ℕ) (us : List (Term K)) → EachPlace P us
+    → EachPlace P (negative p us)
 EachPlace-negative P p [] h = tt
 EachPlace-negative P p (u ∷ us) h = (h.0, EachPlace-negative P p us h.1)
 
@@ -50,22 +52,29 @@ module _ {K : Type 0} (cmp : K → K → Ordering) (p : ℕ) where
   IsDescending-negative [] h = tt
   IsDescending-negative (u ∷ us) h = (EachPlace-negative _ p us h.0, IsDescending-negative us h.1)
 
-  residues-negative : (us : List (Term K)) → AllByRecursion (IsNonzeroResidue p) us → AllByRecursion (IsNonzeroResidue p) (negative p us)
+  residues-negative : (us : List (Term K)) → AllByRecursion (IsNonzeroResidue p) us
+      → AllByRecursion (IsNonzeroResidue p) (negative p us)
   residues-negative [] h = tt
   residues-negative (u ∷ us) h =
-      let value : negative_mod p u.coefficient ≡ p - u.coefficient = negative_mod-positive p u.coefficient h.0.0 h.0.1 in
+      let value : negative_mod p u.coefficient ≡ p - u.coefficient =
+      negative_mod-positive p u.coefficient h.0.0 h.0.1 in
       ((omega arith, omega arith), residues-negative us h.1)
 
   pub IsCanonical-negative : (us : List (Term K)) → IsCanonical cmp p us → IsCanonical cmp p (negative p us)
-  IsCanonical-negative us h = record { descending = IsDescending-negative us h.descending; residues = residues-negative us h.residues }
+  IsCanonical-negative us h = record {
+    descending = IsDescending-negative us h.descending;
+    residues = residues-negative us h.residues;
+  }
 
   -- the negative of the negative of a canonical list is the list
-  pub negative-negative : (us : List (Term K)) → AllByRecursion (IsNonzeroResidue p) us → negative p (negative p us) ≡ us
+  pub negative-negative : (us : List (Term K)) → AllByRecursion (IsNonzeroResidue p) us
+      → negative p (negative p us) ≡ us
   negative-negative [] h = refl
   negative-negative (u ∷ us) h = λ i. record { at = u.at; coefficient = negative_mod-negative p u.coefficient h.0.0 h.0.1 i } ∷ negative-negative us h.1 i
 
   -- over a canonical list and its negative, totals cancel
-  pub total-negative : (g : Term K → ℕ) → IsAdditive p g → (us : List (Term K)) → AllByRecursion (IsNonzeroResidue p) us → sum_mod p (total p g us) (total p g (negative p us)) ≡ 0
+  pub total-negative : (g : Term K → ℕ) → IsAdditive p g → (us : List (Term K)) → AllByRecursion (IsNonzeroResidue p) us
+      → sum_mod p (total p g us) (total p g (negative p us)) ≡ 0
   total-negative g additive [] h = (λ i. sum_mod p (total-nil p g i) (total-nil p g i)) ∙ sum_mod-zero p 0 ∙ zero-mod p
   total-negative g additive (u ∷ us) h =
       (λ i. sum_mod p (total-cons p g u us i) (total-cons p g (negative_term p u) (negative p us) i))
@@ -87,14 +96,16 @@ negative_one_term p = record { at = one; coefficient = negative_mod p 1 }
 module _ {K : Type 0} (keys : Keys K) (p : ℕ) (positive : 0 < p) where
   pub add-negative : (us : List (Term K)) → IsCanonical keys.cmp p us → add keys.cmp p us (negative p us) ≡ []
   add-negative us h =
-      same_from_total keys.cmp keys.order p positive _ [] (IsCanonical-add keys.cmp keys.order p positive us (negative p us)) (record { descending = tt; residues = tt })
+      same_from_total keys.cmp keys.order p positive _ []
+      (IsCanonical-add keys.cmp keys.order p positive us (negative p us)) (record { descending = tt; residues = tt })
       (λ g additive.
       total-add keys.cmp keys.order p g additive us (negative p us)
       ∙ total-negative keys.cmp p g additive us h.residues
       ∙ sym (total-nil p g))
 
   -- the negative is the multiple by -1
-  pub multiple-negative_one : (us : List (Term K)) → IsCanonical keys.cmp p us → multiple keys.cmp keys.act p (negative_one_term p) us ≡ negative p us
+  pub multiple-negative_one : (us : List (Term K)) → IsCanonical keys.cmp p us
+      → multiple keys.cmp keys.act p (negative_one_term p) us ≡ negative p us
   multiple-negative_one us h =
       multiple-same keys p positive (negative_one_term p) us (negative p us) (IsCanonical-negative keys.cmp p us h)
       (λ g additive.
@@ -104,13 +115,15 @@ module _ {K : Type 0} (keys : Keys K) (p : ℕ) (positive : 0 < p) where
       negates : (u : Term K) → u.coefficient < p → term_product keys.act p (negative_one_term p) u ≡ negative_term p u
       negates u below = λ i. record { at = keys.act_one u.at i; coefficient = product_mod-negative_one p u.coefficient positive below i }
 
-  pub negative-add : (us vs : List (Term K)) → IsCanonical keys.cmp p us → IsCanonical keys.cmp p vs → negative p (add keys.cmp p us vs) ≡ add keys.cmp p (negative p us) (negative p vs)
+  pub negative-add : (us vs : List (Term K)) → IsCanonical keys.cmp p us → IsCanonical keys.cmp p vs
+      → negative p (add keys.cmp p us vs) ≡ add keys.cmp p (negative p us) (negative p vs)
   negative-add us vs h k =
       sym (multiple-negative_one (add keys.cmp p us vs) (IsCanonical-add keys.cmp keys.order p positive us vs))
       ∙ multiple-add keys p positive (negative_one_term p) us vs
       ∙ (λ i. add keys.cmp p (multiple-negative_one us h i) (multiple-negative_one vs k i))
 
-  pub multiple-negative : (s : Term Monomial) (us : List (Term K)) → IsCanonical keys.cmp p us → multiple keys.cmp keys.act p s (negative p us) ≡ negative p (multiple keys.cmp keys.act p s us)
+  pub multiple-negative : (s : Term Monomial) (us : List (Term K)) → IsCanonical keys.cmp p us
+      → multiple keys.cmp keys.act p s (negative p us) ≡ negative p (multiple keys.cmp keys.act p s us)
   multiple-negative s us h =
       ap (multiple keys.cmp keys.act p s) (sym (multiple-negative_one us h))
       ∙ multiple-exchange keys p positive s (negative_one_term p) us

@@ -22,7 +22,8 @@ module _ {K : Type 0} (P : K → Type 0) where
   EachPlace-put k zero us h each = each
   EachPlace-put k (suc c) us h each = (h, each)
 
-  pub EachPlace-insert : (cmp : K → K → Ordering) (p : ℕ) (t : Term K) (us : List (Term K)) → P t.at → EachPlace P us → EachPlace P (insert cmp p t us)
+  pub EachPlace-insert : (cmp : K → K → Ordering) (p : ℕ) (t : Term K) (us : List (Term K)) → P t.at → EachPlace P us
+      → EachPlace P (insert cmp p t us)
   unfolding insert
   EachPlace-insert cmp p t [] h each = EachPlace-put t.at (t.coefficient % p) [] h each
   EachPlace-insert cmp p t (u ∷ us) h each =
@@ -31,12 +32,15 @@ module _ {K : Type 0} (P : K → Type 0) where
       (λ equal. EachPlace-put t.at (sum_mod p t.coefficient u.coefficient) us h each.1)
       (λ greater. EachPlace-put t.at (t.coefficient % p) (u ∷ us) h each)
 
-  pub EachPlace-normal : (cmp : K → K → Ordering) (p : ℕ) (ts : List (Term K)) → EachPlace P ts → EachPlace P (normal cmp p ts)
+  pub EachPlace-normal : (cmp : K → K → Ordering) (p : ℕ) (ts : List (Term K)) → EachPlace P ts
+      → EachPlace P (normal cmp p ts)
   unfolding normal
   EachPlace-normal cmp p [] each = each
-  EachPlace-normal cmp p (t ∷ ts) each = EachPlace-insert cmp p t (normal cmp p ts) each.0 (EachPlace-normal cmp p ts each.1)
+  EachPlace-normal cmp p (t ∷ ts) each =
+      EachPlace-insert cmp p t (normal cmp p ts) each.0 (EachPlace-normal cmp p ts each.1)
 
-  pub EachPlace-add : (cmp : K → K → Ordering) (p : ℕ) (us vs : List (Term K)) → EachPlace P us → EachPlace P vs → EachPlace P (add cmp p us vs)
+  pub EachPlace-add : (cmp : K → K → Ordering) (p : ℕ) (us vs : List (Term K)) → EachPlace P us → EachPlace P vs
+      → EachPlace P (add cmp p us vs)
   unfolding add
   EachPlace-add cmp p us vs h k = EachPlace-normal cmp p (us ++ vs) (AllByRecursion-append _ us vs h k)
 
@@ -44,7 +48,8 @@ module _ {K : Type 0} (P : K → Type 0) where
 abbrev pub IsAboveEach : {K : Type 0} → (K → K → Ordering) → K → List (Term K) → Type 0
 IsAboveEach cmp k us = EachPlace (λ l. cmp l k ≡ Less) us
 
-pub IsDescending-put : {K : Type 0} (cmp : K → K → Ordering) (k : K) (c : ℕ) (us : List (Term K)) → IsAboveEach cmp k us → IsDescending cmp us → IsDescending cmp (put k c us)
+pub IsDescending-put : {K : Type 0} (cmp : K → K → Ordering) (k : K) (c : ℕ) (us : List (Term K)) → IsAboveEach cmp k us
+    → IsDescending cmp us → IsDescending cmp (put k c us)
 IsDescending-put cmp k zero us above descending = descending
 IsDescending-put cmp k (suc c) us above descending = (above, descending)
 
@@ -52,7 +57,8 @@ module _ {K : Type 0} (cmp : K → K → Ordering) (order : IsLinearOrder cmp) w
   pub IsAboveEach-trans : (k l : K) (us : List (Term K)) → cmp l k ≡ Less → IsAboveEach cmp l us → IsAboveEach cmp k us
   IsAboveEach-trans k l us less each = AllByRecursion-weaken _ _ (λ u h. order.total.trans u.at l k h less) us each
 
-  pub IsDescending-insert : (p : ℕ) (t : Term K) (us : List (Term K)) → IsDescending cmp us → IsDescending cmp (insert cmp p t us)
+  pub IsDescending-insert : (p : ℕ) (t : Term K) (us : List (Term K)) → IsDescending cmp us
+      → IsDescending cmp (insert cmp p t us)
   unfolding insert
   IsDescending-insert p t [] descending = IsDescending-put cmp t.at (t.coefficient % p) [] tt tt
   IsDescending-insert p t (u ∷ us) descending =
@@ -61,19 +67,22 @@ module _ {K : Type 0} (cmp : K → K → Ordering) (order : IsLinearOrder cmp) w
       (λ equal. IsDescending-put cmp t.at (sum_mod p t.coefficient u.coefficient) us (subst (λ k. IsAboveEach cmp k us) (sym (order.apart t.at u.at equal)) descending.0) descending.1)
       (λ greater.
       let less : cmp u.at t.at ≡ Less = order.total.antisymm u.at t.at ∙ ap ordering_reverse greater in
-      IsDescending-put cmp t.at (t.coefficient % p) (u ∷ us) (less, IsAboveEach-trans t.at u.at us less descending.0) descending)
+      IsDescending-put cmp t.at (t.coefficient % p) (u ∷ us)
+      (less, IsAboveEach-trans t.at u.at us less descending.0) descending)
 
   pub IsDescending-normal : (p : ℕ) (ts : List (Term K)) → IsDescending cmp (normal cmp p ts)
   unfolding normal
   IsDescending-normal p [] = tt
   IsDescending-normal p (t ∷ ts) = IsDescending-insert p t (normal cmp p ts) (IsDescending-normal p ts)
 
-pub residues-put : {K : Type 0} (p : ℕ) (k : K) (c : ℕ) (us : List (Term K)) → c < p → AllByRecursion (IsNonzeroResidue p) us → AllByRecursion (IsNonzeroResidue p) (put k c us)
+pub residues-put : {K : Type 0} (p : ℕ) (k : K) (c : ℕ) (us : List (Term K)) → c < p
+    → AllByRecursion (IsNonzeroResidue p) us → AllByRecursion (IsNonzeroResidue p) (put k c us)
 residues-put p k zero us below each = each
 residues-put p k (suc c) us below each = ((omega arith, below), each)
 
 module _ {K : Type 0} (cmp : K → K → Ordering) (p : ℕ) (positive : 0 < p) where
-  pub residues-insert : (t : Term K) (us : List (Term K)) → AllByRecursion (IsNonzeroResidue p) us → AllByRecursion (IsNonzeroResidue p) (insert cmp p t us)
+  pub residues-insert : (t : Term K) (us : List (Term K)) → AllByRecursion (IsNonzeroResidue p) us
+      → AllByRecursion (IsNonzeroResidue p) (insert cmp p t us)
   unfolding insert
   residues-insert t [] each = residues-put p t.at (t.coefficient % p) [] (mod-lt t.coefficient positive) each
   residues-insert t (u ∷ us) each =
@@ -89,7 +98,10 @@ module _ {K : Type 0} (cmp : K → K → Ordering) (p : ℕ) (positive : 0 < p) 
 
 module _ {K : Type 0} (cmp : K → K → Ordering) (order : IsLinearOrder cmp) (p : ℕ) (positive : 0 < p) where
   pub IsCanonical-normal : (ts : List (Term K)) → IsCanonical cmp p (normal cmp p ts)
-  IsCanonical-normal ts = record { descending = IsDescending-normal cmp order p ts; residues = residues-normal cmp p positive ts }
+  IsCanonical-normal ts = record {
+    descending = IsDescending-normal cmp order p ts;
+    residues = residues-normal cmp p positive ts;
+  }
 
   pub IsCanonical-add : (us vs : List (Term K)) → IsCanonical cmp p (add cmp p us vs)
   unfolding add

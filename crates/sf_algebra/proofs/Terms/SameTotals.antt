@@ -50,7 +50,8 @@ module _ {K : Type 0} (p : ℕ) where
   pub SameTotals-trans : {us vs ws : List (Term K)} → SameTotals p us vs → SameTotals p vs ws → SameTotals p us ws
   SameTotals-trans h k = record { totals = λ g additive. h.totals g additive ∙ k.totals g additive }
 
-  pub SameTotals-append : {us vs ws xs : List (Term K)} → SameTotals p us vs → SameTotals p ws xs → SameTotals p (us ++ ws) (vs ++ xs)
+  pub SameTotals-append : {us vs ws xs : List (Term K)} → SameTotals p us vs → SameTotals p ws xs
+      → SameTotals p (us ++ ws) (vs ++ xs)
   SameTotals-append {us} {vs} {ws} {xs} h k = record {
     totals = λ g additive. total-append p g us ws ∙ (λ i. sum_mod p (h.totals g additive i) (k.totals g additive i)) ∙ sym (total-append p g vs xs);
   }
@@ -71,7 +72,8 @@ module _ {K : Type 0} (p : ℕ) where
   }
 
   -- multiples of both by a term of a polynomial
-  pub SameTotals-products : (act : Monomial → K → K) (s : Term Monomial) {us vs : List (Term K)} → SameTotals p us vs → SameTotals p (map (term_product act p s) us) (map (term_product act p s) vs)
+  pub SameTotals-products : (act : Monomial → K → K) (s : Term Monomial) {us vs : List (Term K)} → SameTotals p us vs
+      → SameTotals p (map (term_product act p s) us) (map (term_product act p s) vs)
   SameTotals-products act s {us} {vs} h = record {
     totals = λ g additive.
         total-map p g (term_product act p s) us
@@ -86,7 +88,8 @@ module _ {K : Type 0} (cmp : K → K → Ordering) (order : IsLinearOrder cmp) (
 
   pub normal-SameTotals : 0 < p → {us vs : List (Term K)} → SameTotals p us vs → normal cmp p us ≡ normal cmp p vs
   normal-SameTotals positive {us} {vs} h =
-      same_from_total cmp order p positive _ _ (IsCanonical-normal cmp order p positive us) (IsCanonical-normal cmp order p positive vs)
+      same_from_total cmp order p positive _ _ (IsCanonical-normal cmp order p positive us)
+      (IsCanonical-normal cmp order p positive vs)
       (λ g additive. total-normal cmp order p g additive us ∙ h.totals g additive ∙ sym (total-normal cmp order p g additive vs))
 
   pub SameTotals-from_normal : (us vs : List (Term K)) → normal cmp p us ≡ normal cmp p vs → SameTotals p us vs
@@ -95,20 +98,23 @@ module _ {K : Type 0} (cmp : K → K → Ordering) (order : IsLinearOrder cmp) (
   }
 
 -- combinations with coefficients that mean one canonical list are equal
-pub combination-SameTotals : {C K : Type 0} (keys : Keys K) (p : ℕ) → 0 < p → (monomial : C → Monomial) (row : C → List (Term K)) {c d : List (Term C)} → SameTotals p c d
+pub combination-SameTotals : {C K : Type 0} (keys : Keys K) (p : ℕ) → 0 < p
+    → (monomial : C → Monomial) (row : C → List (Term K)) {c d : List (Term C)} → SameTotals p c d
     → combination keys.cmp keys.act p monomial row c ≡ combination keys.cmp keys.act p monomial row d
 combination-SameTotals keys p positive monomial row {c} {d} h =
     combination-same keys p positive monomial row c _ (IsCanonical-combination keys p monomial row positive d)
     (λ g additive. h.totals _ (share-additive keys p monomial row g additive) ∙ sym (total-combination keys p monomial row g additive d))
 
 -- the products with the term 1 mean what the list does
-pub SameTotals-products_one : {K : Type 0} (keys : Keys K) (p : ℕ) (us : List (Term K)) → SameTotals p (map (term_product keys.act p one_term) us) us
+pub SameTotals-products_one : {K : Type 0} (keys : Keys K) (p : ℕ) (us : List (Term K))
+    → SameTotals p (map (term_product keys.act p one_term) us) us
 SameTotals-products_one keys p us = record {
   totals = λ g additive. total-map p g (term_product keys.act p one_term) us ∙ total-same p _ _ us (additive-term_product_one keys p g additive);
 }
 
 -- the negatives of the terms of a list take it away
-pub SameTotals-negative : {K : Type 0} (keys : Keys K) (p : ℕ) → 0 < p → (us : List (Term K)) → SameTotals p (us ++ map (term_product keys.act p (negative_one_term p)) us) []
+pub SameTotals-negative : {K : Type 0} (keys : Keys K) (p : ℕ) → 0 < p → (us : List (Term K))
+    → SameTotals p (us ++ map (term_product keys.act p (negative_one_term p)) us) []
 SameTotals-negative {K} keys p positive us = record {
   totals = λ g additive.
       total-append p g us (map (term_product keys.act p (negative_one_term p)) us)
@@ -118,9 +124,11 @@ SameTotals-negative {K} keys p positive us = record {
       ∙ sym (total-nil p g);
 }
   where
-    cancels : (g : Term K → ℕ) → IsAdditive p g → (u : Term K) → sum_mod p (g u) (g (term_product keys.act p (negative_one_term p) u)) ≡ 0
+    cancels : (g : Term K → ℕ) → IsAdditive p g → (u : Term K)
+        → sum_mod p (g u) (g (term_product keys.act p (negative_one_term p) u)) ≡ 0
     cancels g additive u =
-        ap (λ k. sum_mod p (g u) (g (record { at = k; coefficient = product_mod p (negative_mod p 1) u.coefficient }))) (keys.act_one u.at)
+        ap (λ k. sum_mod p (g u) (g (record { at = k; coefficient = product_mod p (negative_mod p 1) u.coefficient })))
+        (keys.act_one u.at)
         ∙ sym (additive.at_sum u.at u.coefficient (product_mod p (negative_mod p 1) u.coefficient))
         ∙ ap (λ n. g (record { at = u.at; coefficient = n }) % p) (sum_mod-negative_one p u.coefficient positive)
         ∙ additive.at_zero u.at

@@ -12,7 +12,8 @@ use Rattle.sf_algebra.proofs.Terms.Coefficients.{same_from_total}
 use Rattle.sf_algebra.proofs.Terms.Normal.{IsCanonical-normal, IsCanonical-add}
 use Rattle.sf_algebra.proofs.Terms.Totals.{total-nil, total-append, total-normal, total-add, total-reduced, total-IsPermutation}
 
-pub normal-one : {K : Type 0} (cmp : K → K → Ordering) (p : ℕ) (t : Term K) → normal cmp p (t ∷ []) ≡ put t.at (t.coefficient % p) []
+pub normal-one : {K : Type 0} (cmp : K → K → Ordering) (p : ℕ) (t : Term K)
+    → normal cmp p (t ∷ []) ≡ put t.at (t.coefficient % p) []
 unfolding normal insert
 normal-one cmp p t = refl
 
@@ -30,25 +31,29 @@ module _ {K : Type 0} (cmp : K → K → Ordering) (order : IsLinearOrder cmp) (
   -- the order of the terms doesn't matter
   pub normal-IsPermutation : (ts us : List (Term K)) → IsPermutation ts us → normal cmp p us ≡ normal cmp p ts
   normal-IsPermutation ts us h =
-      same_from_total cmp order p positive _ _ (IsCanonical-normal cmp order p positive us) (IsCanonical-normal cmp order p positive ts)
+      same_from_total cmp order p positive _ _ (IsCanonical-normal cmp order p positive us)
+      (IsCanonical-normal cmp order p positive ts)
       (λ g additive. total-normal cmp order p g additive us ∙ total-IsPermutation p g ts us h ∙ sym (total-normal cmp order p g additive ts))
 
   -- two lists one after the other mean the sum of what each means
   pub normal-append : (ts us : List (Term K)) → normal cmp p (ts ++ us) ≡ add cmp p (normal cmp p ts) (normal cmp p us)
   normal-append ts us =
-      same_from_total cmp order p positive _ _ (IsCanonical-normal cmp order p positive (ts ++ us)) (IsCanonical-add cmp order p positive _ _)
+      same_from_total cmp order p positive _ _ (IsCanonical-normal cmp order p positive (ts ++ us))
+      (IsCanonical-add cmp order p positive _ _)
       (λ g additive.
       total-normal cmp order p g additive (ts ++ us)
       ∙ total-append p g ts us
       ∙ sym (total-add cmp order p g additive _ _ ∙ (λ i. sum_mod p (total-normal cmp order p g additive ts i) (total-normal cmp order p g additive us i))))
 
   -- the halves of a list mean the sum of what each means
-  pub normal-halves : (k : ℕ) (ts : List (Term K)) → normal cmp p ts ≡ add cmp p (normal cmp p (take k ts)) (normal cmp p (drop k ts))
+  pub normal-halves : (k : ℕ) (ts : List (Term K))
+      → normal cmp p ts ≡ add cmp p (normal cmp p (take k ts)) (normal cmp p (drop k ts))
   normal-halves k ts = ap (normal cmp p) (sym (take-append-drop k ts)) ∙ normal-append (take k ts) (drop k ts)
 
   pub add_comm : (us vs : List (Term K)) → add cmp p us vs ≡ add cmp p vs us
   add_comm us vs =
-      same_from_total cmp order p positive _ _ (IsCanonical-add cmp order p positive us vs) (IsCanonical-add cmp order p positive vs us)
+      same_from_total cmp order p positive _ _ (IsCanonical-add cmp order p positive us vs)
+      (IsCanonical-add cmp order p positive vs us)
       (λ g additive.
       total-add cmp order p g additive us vs
       ∙ sum_mod-comm p _ _
@@ -56,7 +61,8 @@ module _ {K : Type 0} (cmp : K → K → Ordering) (order : IsLinearOrder cmp) (
 
   pub add_assoc : (us vs ws : List (Term K)) → add cmp p (add cmp p us vs) ws ≡ add cmp p us (add cmp p vs ws)
   add_assoc us vs ws =
-      same_from_total cmp order p positive _ _ (IsCanonical-add cmp order p positive _ ws) (IsCanonical-add cmp order p positive us _)
+      same_from_total cmp order p positive _ _ (IsCanonical-add cmp order p positive _ ws)
+      (IsCanonical-add cmp order p positive us _)
       (λ g additive.
       total-add cmp order p g additive _ ws
       ∙ ap (λ n. sum_mod p n (total p g ws)) (total-add cmp order p g additive us vs)

@@ -17,7 +17,9 @@ use Rattle.sf_algebra.proofs.Monomials.Orders.{match_ordering_cases}
 -- a number for each term that is additive in the coefficient, modulo p
 pub record IsAdditive {K : Type 0} (p : ℕ) (g : Term K → ℕ) : Type 0 where
   pub at_zero : (k : K) → g (record { at = k; coefficient = 0 }) % p ≡ 0
-  pub at_sum : (k : K) (a b : ℕ) → g (record { at = k; coefficient = sum_mod p a b }) % p ≡ sum_mod p (g (record { at = k; coefficient = a })) (g (record { at = k; coefficient = b }))
+  pub at_sum : (k : K) (a b : ℕ)
+      → g (record { at = k; coefficient = sum_mod p a b }) % p
+      ≡ sum_mod p (g (record { at = k; coefficient = a })) (g (record { at = k; coefficient = b }))
 
 module _ {K : Type 0} (p : ℕ) (g : Term K → ℕ) where
   pub total-nil : total p g [] ≡ 0
@@ -43,7 +45,8 @@ module _ {K : Type 0} (p : ℕ) (g : Term K → ℕ) where
 
 module _ {K : Type 0} (p : ℕ) (g : Term K → ℕ) (additive : IsAdditive p g) where
   -- a coefficient may be reduced
-  pub additive-reduced : (k : K) (c : ℕ) → g (record { at = k; coefficient = c % p }) % p ≡ g (record { at = k; coefficient = c }) % p
+  pub additive-reduced : (k : K) (c : ℕ)
+      → g (record { at = k; coefficient = c % p }) % p ≡ g (record { at = k; coefficient = c }) % p
   additive-reduced k c =
       ap (λ n. g (record { at = k; coefficient = n }) % p) (sym (sum_mod-zero p c))
       ∙ additive.at_sum k c 0
@@ -51,7 +54,8 @@ module _ {K : Type 0} (p : ℕ) (g : Term K → ℕ) (additive : IsAdditive p g)
       ∙ ap (sum_mod p (g (record { at = k; coefficient = c }))) (additive.at_zero k)
       ∙ sum_mod-zero p _
 
-  pub total-put : (k : K) (c : ℕ) (us : List (Term K)) → total p g (put k c us) ≡ sum_mod p (g (record { at = k; coefficient = c })) (total p g us)
+  pub total-put : (k : K) (c : ℕ) (us : List (Term K))
+      → total p g (put k c us) ≡ sum_mod p (g (record { at = k; coefficient = c })) (total p g us)
   total-put k zero us =
       sym (total-reduced p g us)
       ∙ sym (sum_mod-zero_first p (total p g us))
@@ -59,14 +63,16 @@ module _ {K : Type 0} (p : ℕ) (g : Term K → ℕ) (additive : IsAdditive p g)
       ∙ sum_mod-first p _ _
   total-put k (suc c) us = total-cons p g (record { at = k; coefficient = suc c }) us
 
-  total-put_reduced : (k : K) (c : ℕ) (us : List (Term K)) → total p g (put k (c % p) us) ≡ sum_mod p (g (record { at = k; coefficient = c })) (total p g us)
+  total-put_reduced : (k : K) (c : ℕ) (us : List (Term K))
+      → total p g (put k (c % p) us) ≡ sum_mod p (g (record { at = k; coefficient = c })) (total p g us)
   total-put_reduced k c us =
       total-put k (c % p) us
       ∙ sym (sum_mod-first p _ _)
       ∙ ap (λ n. sum_mod p n (total p g us)) (additive-reduced k c)
       ∙ sum_mod-first p _ _
 
-module _ {K : Type 0} (cmp : K → K → Ordering) (order : IsLinearOrder cmp) (p : ℕ) (g : Term K → ℕ) (additive : IsAdditive p g) where
+module _ {K : Type 0} (cmp : K → K → Ordering) (order : IsLinearOrder cmp) (p : ℕ) (g : Term K → ℕ)
+    (additive : IsAdditive p g) where
   pub total-insert : (t : Term K) (us : List (Term K)) → total p g (insert cmp p t us) ≡ sum_mod p (g t) (total p g us)
   unfolding insert
   total-insert t [] = total-put_reduced p g additive t.at t.coefficient []
@@ -84,7 +90,8 @@ module _ {K : Type 0} (cmp : K → K → Ordering) (order : IsLinearOrder cmp) (
       ∙ sym (sum_mod-first p _ _)
       ∙ ap (λ n. sum_mod p n (total p g us)) (additive.at_sum t.at t.coefficient u.coefficient)
       ∙ sum_mod-assoc p _ _ _
-      ∙ ap (λ k. sum_mod p (g t) (sum_mod p (g (record { at = k; coefficient = u.coefficient })) (total p g us))) (order.apart t.at u.at equal)
+      ∙ ap (λ k. sum_mod p (g t) (sum_mod p (g (record { at = k; coefficient = u.coefficient })) (total p g us)))
+      (order.apart t.at u.at equal)
       ∙ ap (sum_mod p (g t)) (sym (total-cons p g u us)))
       (λ greater. total-put_reduced p g additive t.at t.coefficient (u ∷ us))
 
@@ -92,7 +99,8 @@ module _ {K : Type 0} (cmp : K → K → Ordering) (order : IsLinearOrder cmp) (
   pub total-normal : (ts : List (Term K)) → total p g (normal cmp p ts) ≡ total p g ts
   unfolding normal
   total-normal [] = refl
-  total-normal (t ∷ ts) = total-insert t (normal cmp p ts) ∙ ap (sum_mod p (g t)) (total-normal ts) ∙ sym (total-cons p g t ts)
+  total-normal (t ∷ ts) =
+      total-insert t (normal cmp p ts) ∙ ap (sum_mod p (g t)) (total-normal ts) ∙ sym (total-cons p g t ts)
 
   pub total-add : (us vs : List (Term K)) → total p g (add cmp p us vs) ≡ sum_mod p (total p g us) (total p g vs)
   unfolding add

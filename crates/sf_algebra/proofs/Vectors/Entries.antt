@@ -41,5 +41,7 @@ pub position_from_place_cmp : (weights : Weights) (a b : Place) → place_cmp we
 position_from_place_cmp weights a b e = nat_cmp-lead b.position a.position _ e
 
 -- the terms behind a term of a descending list stand at no earlier position
-pub IsDescending-positions : (weights : Weights) (t : Term Place) (ts : List (Term Place)) → IsDescending (place_cmp weights) (t ∷ ts) → AllByRecursion (λ u. t.at.position ≤ u.at.position) ts
-IsDescending-positions weights t ts h = AllByRecursion-weaken _ _ (λ u e. position_from_place_cmp weights u.at t.at e) ts h.0
+pub IsDescending-positions : (weights : Weights) (t : Term Place) (ts : List (Term Place))
+    → IsDescending (place_cmp weights) (t ∷ ts) → AllByRecursion (λ u. t.at.position ≤ u.at.position) ts
+IsDescending-positions weights t ts h =
+    AllByRecursion-weaken _ _ (λ u e. position_from_place_cmp weights u.at t.at e) ts h.0

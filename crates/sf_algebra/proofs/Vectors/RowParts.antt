@@ -15,7 +15,8 @@ use Rattle.sf_algebra.proofs.Vectors.Rows.{row_at-map}
 abbrev pub HasCanonicalRows : Ring → List Vector → Type 0
 HasCanonicalRows ring = AllByRecursion (λ (v : Vector). IsCanonicalRow ring v.terms)
 
-pub IsCanonical-row_at : (ring : Ring) (rows : List Vector) → HasCanonicalRows ring rows → (i : ℕ) → IsCanonicalRow ring (row_at rows i)
+pub IsCanonical-row_at : (ring : Ring) (rows : List Vector) → HasCanonicalRows ring rows → (i : ℕ)
+    → IsCanonicalRow ring (row_at rows i)
 IsCanonical-row_at ring [] h i = record { descending = tt; residues = tt }
 IsCanonical-row_at ring (v ∷ vs) h zero = h.0
 IsCanonical-row_at ring (v ∷ vs) h (suc i) = IsCanonical-row_at ring vs h.1 i
@@ -24,8 +25,10 @@ pub row_at-negated : (m : Matrix) (i : ℕ) → row_at (negated m).rows i ≡ ne
 row_at-negated m i = row_at-map (negative m.ring.modulus) refl m.rows i
 
 -- the combination of the rows of the negative of a matrix
-pub row_combination-negated : (m : Matrix) → 0 < m.ring.modulus → HasCanonicalRows m.ring m.rows → (c : List (Term Place))
+pub row_combination-negated : (m : Matrix) → 0 < m.ring.modulus → HasCanonicalRows m.ring m.rows
+    → (c : List (Term Place))
     → row_combination m.ring (negated m).rows c ≡ negative m.ring.modulus (row_combination m.ring m.rows c)
 row_combination-negated m positive canonical c =
     (λ i. combination (place_cmp m.ring.weights) place_product m.ring.modulus (λ k. k.monomial) (λ k. row_at-negated m k.position i) c)
-    ∙ combination-negative_rows (place_keys m.ring.weights) m.ring.modulus positive (λ k. k.monomial) (λ k. row_at m.rows k.position) c (λ k. IsCanonical-row_at m.ring m.rows canonical k.position)
+    ∙ combination-negative_rows (place_keys m.ring.weights) m.ring.modulus positive (λ k. k.monomial)
+    (λ k. row_at m.rows k.position) c (λ k. IsCanonical-row_at m.ring m.rows canonical k.position)

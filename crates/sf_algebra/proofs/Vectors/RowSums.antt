@@ -15,7 +15,8 @@ module _ (ring : Ring) (positive : 0 < ring.modulus) where
   pub row_sum-comm : (us vs : List (Term Place)) → row_sum ring us vs ≡ row_sum ring vs us
   row_sum-comm = add_comm (place_cmp ring.weights) (place_cmp_linear ring.weights) ring.modulus positive
 
-  pub row_sum-assoc : (us vs ws : List (Term Place)) → row_sum ring (row_sum ring us vs) ws ≡ row_sum ring us (row_sum ring vs ws)
+  pub row_sum-assoc : (us vs ws : List (Term Place))
+      → row_sum ring (row_sum ring us vs) ws ≡ row_sum ring us (row_sum ring vs ws)
   row_sum-assoc = add_assoc (place_cmp ring.weights) (place_cmp_linear ring.weights) ring.modulus positive
 
   pub row_sum-nil : (us : List (Term Place)) → IsCanonicalRow ring us → row_sum ring us [] ≡ us

@@ -59,7 +59,9 @@ module _ (ring : Ring) (positive : 0 < ring.modulus) (rows : List Vector) where
   SpanOf = ImageOf combined_rows Whole
 
   pub SpanOf-sub : IsSub (vectors ring positive) SpanOf
-  SpanOf-sub = ImageOf-sub (vectors ring positive) (vectors ring positive) combined_rows combined_rows-map Whole (Whole-sub (vectors ring positive))
+  SpanOf-sub =
+      ImageOf-sub (vectors ring positive) (vectors ring positive) combined_rows combined_rows-map Whole
+      (Whole-sub (vectors ring positive))
 
 -- the homogeneous vectors of degree d over a free module, with no operators
 abbrev pub vectors_of_degree : (ring : Ring) → 0 < ring.modulus → List ℤ → ℤ → Group ⊥
@@ -87,9 +89,11 @@ module _ (m : Matrix) (positive : 0 < m.ring.modulus) (d : ℤ) where
 
   -- the combination of its rows
   abbrev pub combined_matrix : IsMatrix m → coefficients_of_degree.V → values_of_degree.V
-  combined_matrix is_matrix c = (row_combination m.ring m.rows c.0, IsVector-row_combination m positive is_matrix (record { degree = d; terms = c.0 }) c.1)
+  combined_matrix is_matrix c =
+      (row_combination m.ring m.rows c.0, IsVector-row_combination m positive is_matrix (record { degree = d; terms = c.0 }) c.1)
 
-  pub combined_matrix-map : (is_matrix : IsMatrix m) → IsMap coefficients_of_degree values_of_degree (combined_matrix is_matrix)
+  pub combined_matrix-map : (is_matrix : IsMatrix m)
+      → IsMap coefficients_of_degree values_of_degree (combined_matrix is_matrix)
   combined_matrix-map is_matrix = record {
     to_plus = λ c e. same_vector m.ring m.target d _ _ (row_combination-add m.ring positive m.rows c.0 e.0);
     to_act = λ r c. absurd r;

@@ -14,7 +14,8 @@ use Rattle.sf_algebra.proofs.Monomials.Orders.{nat_cmp-Equal}
 use Rattle.sf_algebra.proofs.Monomials.Weights.{exponent_sum-at_most}
 
 -- what f takes into a well-founded relation is well founded
-pub image_acc : {A B : Type 0} (R : B → B → Type 0) (S : A → A → Type 0) (f : A → B) → ((x y : A) → S x y → R (f x) (f y)) → (x : A) → Acc R (f x) → Acc S x
+pub image_acc : {A B : Type 0} (R : B → B → Type 0) (S : A → A → Type 0) (f : A → B)
+    → ((x y : A) → S x y → R (f x) (f y)) → (x : A) → Acc R (f x) → Acc S x
 image_acc R S f keep x h = Subrelation.accessible keep (InvImage.accessible f h)
 
 -- each step of R lowers the rank, or keeps it and is a step of S
@@ -35,16 +36,20 @@ module _ {A : Type 0} (rank : A → ℕ) (R S : A → A → Type 0) (ranked : Is
   ranked_acc acc x = below_rank acc (suc (rank x)) x (omega arith)
 
 -- a relation whose steps lower a rank is well founded
-pub rank_acc : {A : Type 0} (rank : A → ℕ) (R : A → A → Type 0) → ((x y : A) → R x y → rank x < rank y) → (x : A) → Acc R x
-rank_acc rank R lower x = ranked_acc rank R (λ y z. ⊥) (λ y z step. inl (lower y z step)) (λ y. Acc.intro y (λ z none. absurd none)) x
+pub rank_acc : {A : Type 0} (rank : A → ℕ) (R : A → A → Type 0) → ((x y : A) → R x y → rank x < rank y) → (x : A)
+    → Acc R x
+rank_acc rank R lower x =
+    ranked_acc rank R (λ y z. ⊥) (λ y z step. inl (lower y z step)) (λ y. Acc.intro y (λ z none. absurd none)) x
 
 -- less in an order of monomials of one degree
 abbrev IsLessOfDegree : Weights → (Monomial → Monomial → Ordering) → Monomial → Monomial → Type 0
 IsLessOfDegree weights cmp a b = (monomial_degree weights a ≡ monomial_degree weights b) × (cmp a b ≡ Less)
 
 -- an exponent that is no greater than the degree, where a greater one is less, before an order that is well founded
-exponent_acc : (weights : Weights) (exponent : Monomial → ℕ) → ((a : Monomial) → exponent a ≤ monomial_degree weights a) → (cmp : Monomial → Monomial → Ordering)
-    → ((a : Monomial) → Acc (IsLessOfDegree weights cmp) a) → (a : Monomial) → Acc (IsLessOfDegree weights (then_cmp (flip_args (on exponent nat_cmp)) cmp)) a
+exponent_acc : (weights : Weights) (exponent : Monomial → ℕ) → ((a : Monomial) → exponent a ≤ monomial_degree weights a)
+    → (cmp : Monomial → Monomial → Ordering)
+    → ((a : Monomial) → Acc (IsLessOfDegree weights cmp) a) → (a : Monomial)
+    → Acc (IsLessOfDegree weights (then_cmp (flip_args (on exponent nat_cmp)) cmp)) a
 exponent_acc weights exponent bounded cmp acc a =
     ranked_acc (λ b. monomial_degree weights b - exponent b) _ (IsLessOfDegree weights cmp)
     (λ b c less.
@@ -55,12 +60,14 @@ exponent_acc weights exponent bounded cmp acc a =
     (ordering_then-Less _ _ less.1))
     acc a
 
-last_exponent_acc : (weights : Weights) → IsPositive weights → (a : Monomial) → Acc (IsLessOfDegree weights (flip_args (on (λ (b : Monomial). b.e1) nat_cmp))) a
+last_exponent_acc : (weights : Weights) → IsPositive weights → (a : Monomial)
+    → Acc (IsLessOfDegree weights (flip_args (on (λ (b : Monomial). b.e1) nat_cmp))) a
 last_exponent_acc weights positive a =
     rank_acc (λ (b : Monomial). monomial_degree weights b - b.e1) _ (λ (b c : Monomial) less. let smaller = nat_cmp-Less c.e1 b.e1 less.1 in let bound = exponent_sum-at_most weights positive b in let other = exponent_sum-at_most weights positive c in omega arith) a
 
 -- the order of monomials is well founded
-pub monomial_acc : (weights : Weights) → IsPositive weights → (a : Monomial) → Acc (λ b c. monomial_cmp weights b c ≡ Less) a
+pub monomial_acc : (weights : Weights) → IsPositive weights → (a : Monomial)
+    → Acc (λ b c. monomial_cmp weights b c ≡ Less) a
 monomial_acc weights positive a =
     ranked_acc (monomial_degree weights) _ _
     (λ b c less.
@@ -82,7 +89,8 @@ IsBelow weights n j k = (place_cmp weights j k ≡ Less) × (j.position < n)
 -- the order of the places with positions below n is well founded
 pub place_acc : (weights : Weights) → IsPositive weights → (n : ℕ) (k : Place) → Acc (IsBelow weights n) k
 place_acc weights positive n k =
-    ranked_acc (λ (j : Place). n - j.position) (IsBelow weights n) (λ (i j : Place). monomial_cmp weights i.monomial j.monomial ≡ Less)
+    ranked_acc (λ (j : Place). n - j.position) (IsBelow weights n)
+    (λ (i j : Place). monomial_cmp weights i.monomial j.monomial ≡ Less)
     (λ (i j : Place) below.
     ⊎_elim
     (λ (first : nat_cmp j.position i.position ≡ Less). let later = nat_cmp-Less j.position i.position first in inl (omega arith))

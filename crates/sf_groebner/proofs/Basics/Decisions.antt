@@ -27,7 +27,8 @@ decide_both P Q (inr fails) q = inr (λ h. fails h.0)
 decide_both P Q (inl held) (inr fails) = inr (λ h. fails h.1)
 decide_both P Q (inl held) (inl other) = inl (held, other)
 
-pub decide_each : {X : Type 0} (P : X → Type 0) → ((x : X) → IsDecided (P x)) → (xs : List X) → IsDecided (AllByRecursion P xs)
+pub decide_each : {X : Type 0} (P : X → Type 0) → ((x : X) → IsDecided (P x)) → (xs : List X)
+    → IsDecided (AllByRecursion P xs)
 decide_each P decide [] = inl tt
 decide_each P decide (x ∷ xs) = decide_both (P x) (AllByRecursion P xs) (decide x) (decide_each P decide xs)
 
@@ -43,7 +44,8 @@ decide_lead : (weights : Weights) (limit : ℕ) (ts : List (Term Place)) → IsD
 decide_lead weights limit [] = inl tt
 decide_lead weights limit (t ∷ ts) = decide_le (monomial_degree weights t.at.monomial) limit
 
-pub decide_within_limit : (weights : Weights) (limit : ℕ) (basis : List Vector) → IsDecided (IsWithinLimit weights limit basis)
+pub decide_within_limit : (weights : Weights) (limit : ℕ) (basis : List Vector)
+    → IsDecided (IsWithinLimit weights limit basis)
 decide_within_limit weights limit basis =
     decide_from _ _ (λ h. record { few = h.0; low = h.1 }) (λ h. (h.few, h.low))
     (decide_both (length basis ≤ GREATEST_SIZE) (AllByRecursion (λ (v : Vector). HasLeadUpTo weights limit v.terms) basis)
@@ -52,7 +54,8 @@ decide_within_limit weights limit basis =
 
 pub decide_small_size : (m : Matrix) → IsDecided (HasSmallSize m)
 decide_small_size m =
-    decide_from _ _ (λ h. record { rows = h.0.0; columns = h.0.1; row_degrees = h.1.0; column_degrees = h.1.1 }) (λ h. ((h.rows, h.columns), (h.row_degrees, h.column_degrees)))
+    decide_from _ _ (λ h. record { rows = h.0.0; columns = h.0.1; row_degrees = h.1.0; column_degrees = h.1.1 })
+    (λ h. ((h.rows, h.columns), (h.row_degrees, h.column_degrees)))
     (decide_both ((length m.rows ≤ GREATEST_SIZE) × (length m.target ≤ GREATEST_SIZE)) (AllByRecursion IsSmallDegree (row_degrees m) × AllByRecursion IsSmallDegree m.target)
     (decide_both _ _ (decide_le (length m.rows) GREATEST_SIZE) (decide_le (length m.target) GREATEST_SIZE))
     (decide_both _ _ (decide_each IsSmallDegree decide_small_degree (row_degrees m)) (decide_each IsSmallDegree decide_small_degree m.target)))

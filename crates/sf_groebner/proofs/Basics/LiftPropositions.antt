@@ -17,9 +17,12 @@ same_vectors-prop v w = hlevel props
 
 pub IsLift-prop : (m : Matrix) → IsRing m.ring → (v c : Vector) → IsProp (IsLift m v c)
 IsLift-prop m positive v c h k =
-    let bases : h.syzygies ≡ k.syzygies = unique_reduced m.ring positive (row_degrees m) (IsSyzygy m) (syzygy_module m positive) h.syzygies k.syzygies h.basis k.basis in
+    let bases : h.syzygies ≡ k.syzygies =
+    unique_reduced m.ring positive (row_degrees m) (IsSyzygy m)
+    (syzygy_module m positive) h.syzygies k.syzygies h.basis k.basis in
     let basis = is_prop→PathP (λ i. IsSyzygyBasis m (bases i)) (λ i. syzygy_basis-prop m (bases i)) h.basis k.basis in
-    let reduced = is_prop→PathP (λ i. IsReducedBy (bases i) c.terms) (λ i. IsReducedBy-prop (bases i) c.terms) h.reduced k.reduced in
+    let reduced =
+    is_prop→PathP (λ i. IsReducedBy (bases i) c.terms) (λ i. IsReducedBy-prop (bases i) c.terms) h.reduced k.reduced in
     λ i. record {
       syzygies = bases i;
       basis = basis i;

@@ -22,7 +22,8 @@ Decides-nat_le a b = (leb-true a b, le-leb a b)
 
 pub Decides-divides : (a b : Monomial) → Decides (divides a b) (Divides a b)
 Decides-divides a b =
-    Decides-like _ (λ h. (h.0, h.1.0, h.1.1.0, h.1.1.1.0, h.1.1.1.1.0, h.1.1.1.1.1)) (λ h. (h.0, (h.1, (h.2, (h.3, (h.4, h.5))))))
+    Decides-like _ (λ h. (h.0, h.1.0, h.1.1.0, h.1.1.1.0, h.1.1.1.1.0, h.1.1.1.1.1))
+    (λ h. (h.0, (h.1, (h.2, (h.3, (h.4, h.5))))))
     (Decides-and _ _ (Decides-nat_le a.e1 b.e1)
     (Decides-and _ _ (Decides-nat_le a.e2 b.e2)
     (Decides-and _ _ (Decides-nat_le a.e3 b.e3)
@@ -47,11 +48,13 @@ pub PlaceDivides-trans : (i j k : Place) → PlaceDivides i j → PlaceDivides j
 PlaceDivides-trans i j k h l = (h.0 ∙ l.0, Divides-trans i.monomial j.monomial k.monomial h.1 l.1)
 
 pub PlaceDivides-antisymm : (j k : Place) → PlaceDivides j k → PlaceDivides k j → j ≡ k
-PlaceDivides-antisymm j k h l = let same = Divides-antisymm j.monomial k.monomial h.1 l.1 in λ i. record { position = h.0 i; monomial = same i }
+PlaceDivides-antisymm j k h l =
+    let same = Divides-antisymm j.monomial k.monomial h.1 l.1 in λ i. record { position = h.0 i; monomial = same i }
 
 -- a place divides its products with monomials
 pub PlaceDivides-place_product : (a : Monomial) (k : Place) → PlaceDivides k (place_product a k)
-PlaceDivides-place_product a k = (refl, Divides-multiple k.monomial (product a k.monomial) a (product-comm k.monomial a))
+PlaceDivides-place_product a k =
+    (refl, Divides-multiple k.monomial (product a k.monomial) a (product-comm k.monomial a))
 
 -- it is divided by nothing else
 pub place_product-quotient : (j k : Place) → PlaceDivides j k → place_product (quotient k.monomial j.monomial) j ≡ k
@@ -60,24 +63,32 @@ place_product-quotient j k h =
     λ i. record { position = h.0 i; monomial = same i }
 
 -- a divisor is not greater
-pub PlaceDivides-place_cmp : (weights : Weights) → IsPositive weights → (j k : Place) → PlaceDivides j k → place_cmp weights j k ≢ Greater
+pub PlaceDivides-place_cmp : (weights : Weights) → IsPositive weights → (j k : Place) → PlaceDivides j k
+    → place_cmp weights j k ≢ Greater
 PlaceDivides-place_cmp weights positive j k h greater =
-    let same : nat_cmp k.position j.position ≡ Equal = ap (nat_cmp k.position) h.0 ∙ tied_itself nat_cmp_total k.position in
-    Divides-monomial_cmp weights positive j.monomial k.monomial h.1 (sym (ap (λ o. ordering_then o (monomial_cmp weights j.monomial k.monomial)) same) ∙ greater)
+    let same : nat_cmp k.position j.position ≡ Equal =
+    ap (nat_cmp k.position) h.0 ∙ tied_itself nat_cmp_total k.position in
+    Divides-monomial_cmp weights positive j.monomial k.monomial h.1
+    (sym (ap (λ o. ordering_then o (monomial_cmp weights j.monomial k.monomial)) same) ∙ greater)
 
 -- a test that none of the places divides k
-pub not_divided-each : (k : Place) (ks : List Place) → IsFalse (list_any (λ j. place_divides j k) ks) → AllByRecursion (λ j. PlaceDivides j k → ⊥) ks
+pub not_divided-each : (k : Place) (ks : List Place) → IsFalse (list_any (λ j. place_divides j k) ks)
+    → AllByRecursion (λ j. PlaceDivides j k → ⊥) ks
 not_divided-each k [] e = tt
 not_divided-each k (j ∷ ks) e =
     let p = or_parts (place_divides j k) _ e in
     (not_from_Decides _ (Decides-place_divides j k) p.0, not_divided-each k ks p.1)
 
-pub each-not_divided : (k : Place) (ks : List Place) → AllByRecursion (λ j. PlaceDivides j k → ⊥) ks → IsFalse (list_any (λ j. place_divides j k) ks)
+pub each-not_divided : (k : Place) (ks : List Place) → AllByRecursion (λ j. PlaceDivides j k → ⊥) ks
+    → IsFalse (list_any (λ j. place_divides j k) ks)
 each-not_divided k [] h = refl
 each-not_divided k (j ∷ ks) h =
-    or_from (place_divides j k) _ (false_from_ne_true _ (λ e. h.0 ((Decides-place_divides j k).0 e))) (each-not_divided k ks h.1)
+    or_from (place_divides j k) _ (false_from_ne_true _ (λ e. h.0 ((Decides-place_divides j k).0 e)))
+    (each-not_divided k ks h.1)
 
 -- a divisor of a place that none divides is divided by none
-pub not_divided-divisor : (i k : Place) (ks : List Place) → PlaceDivides i k → IsFalse (list_any (λ j. place_divides j k) ks) → IsFalse (list_any (λ j. place_divides j i) ks)
+pub not_divided-divisor : (i k : Place) (ks : List Place) → PlaceDivides i k
+    → IsFalse (list_any (λ j. place_divides j k) ks) → IsFalse (list_any (λ j. place_divides j i) ks)
 not_divided-divisor i k ks h e =
-    each-not_divided i ks (AllByRecursion-weaken _ _ (λ j none divides. none (PlaceDivides-trans j i k divides h)) ks (not_divided-each k ks e))
+    each-not_divided i ks
+    (AllByRecursion-weaken _ _ (λ j none divides. none (PlaceDivides-trans j i k divides h)) ks (not_divided-each k ks e))

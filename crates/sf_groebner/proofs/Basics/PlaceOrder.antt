@@ -18,7 +18,8 @@ pub not_greater_itself : (weights : Weights) (k : Place) → place_cmp weights k
 not_greater_itself weights k = Equal-not_Greater _ (tied_itself (place_cmp_total weights) k)
 
 -- what is less than k is less than what k is not greater than
-pub less_not_greater : (weights : Weights) (j k b : Place) → place_cmp weights j k ≡ Less → place_cmp weights k b ≢ Greater → place_cmp weights j b ≡ Less
+pub less_not_greater : (weights : Weights) (j k b : Place) → place_cmp weights j k ≡ Less
+    → place_cmp weights k b ≢ Greater → place_cmp weights j b ≡ Less
 less_not_greater weights j k b less most =
     ordering_cases (place_cmp weights k b)
     (λ below. (place_cmp_total weights).trans j k b less below)
@@ -26,7 +27,8 @@ less_not_greater weights j k b less most =
     (λ greater. absurd (most greater))
 
 -- what is not greater than k is less than what k is less than
-pub not_greater_less : (weights : Weights) (j k b : Place) → place_cmp weights j k ≢ Greater → place_cmp weights k b ≡ Less → place_cmp weights j b ≡ Less
+pub not_greater_less : (weights : Weights) (j k b : Place) → place_cmp weights j k ≢ Greater
+    → place_cmp weights k b ≡ Less → place_cmp weights j b ≡ Less
 not_greater_less weights j k b most less =
     ordering_cases (place_cmp weights j k)
     (λ below. (place_cmp_total weights).trans j k b below less)

@@ -16,11 +16,13 @@ IsDescending-prop : {K : Type 0} (cmp : K → K → Ordering) (ts : List (Term K
 IsDescending-prop cmp [] = hlevel props
 IsDescending-prop cmp (t ∷ ts) = let rest = IsDescending-prop cmp ts in hlevel (props, rest)
 
-pub IsCanonical-prop : {K : Type 0} (cmp : K → K → Ordering) (p : ℕ) (ts : List (Term K)) → IsProp (IsCanonical cmp p ts)
+pub IsCanonical-prop : {K : Type 0} (cmp : K → K → Ordering) (p : ℕ) (ts : List (Term K))
+    → IsProp (IsCanonical cmp p ts)
 IsCanonical-prop cmp p ts = let descending = IsDescending-prop cmp ts in hlevel (props, descending)
 
 pub IsVector-prop : (ring : Ring) (degrees : List ℤ) (v : Vector) → IsProp (IsVector ring degrees v)
-IsVector-prop ring degrees v = let canonical = IsCanonical-prop (place_cmp ring.weights) ring.modulus v.terms in hlevel (props, canonical)
+IsVector-prop ring degrees v =
+    let canonical = IsCanonical-prop (place_cmp ring.weights) ring.modulus v.terms in hlevel (props, canonical)
 
 pub IsMatrix-prop : (m : Matrix) → IsProp (IsMatrix m)
 IsMatrix-prop m = AllByRecursion-prop _ (IsVector-prop m.ring m.target) m.rows
@@ -51,14 +53,17 @@ IsSorted-prop weights [] = hlevel props
 IsSorted-prop weights (v ∷ vs) = let rest = IsSorted-prop weights vs in hlevel (props, rest)
 
 -- the reduced basis of a module that is given by a proposition
-pub IsReducedBasis-prop : (weights : Weights) (N : Vector → Type 0) → ((v : Vector) → IsProp (N v)) → (basis : List Vector) → IsProp (IsReducedBasis weights N basis)
-IsReducedBasis-prop weights N each basis = hlevel (props, each, IsMonic-prop, HasDividedLead-prop, IsApart-prop, IsSorted-prop weights)
+pub IsReducedBasis-prop : (weights : Weights) (N : Vector → Type 0) → ((v : Vector) → IsProp (N v))
+    → (basis : List Vector) → IsProp (IsReducedBasis weights N basis)
+IsReducedBasis-prop weights N each basis =
+    hlevel (props, each, IsMonic-prop, HasDividedLead-prop, IsApart-prop, IsSorted-prop weights)
 
 HasLeadUpTo-prop : (weights : Weights) (limit : ℕ) (ts : List (Term Place)) → IsProp (HasLeadUpTo weights limit ts)
 HasLeadUpTo-prop weights limit [] = hlevel props
 HasLeadUpTo-prop weights limit (t ∷ ts) = hlevel props
 
-pub IsWithinLimit-prop : (weights : Weights) (limit : ℕ) (basis : List Vector) → IsProp (IsWithinLimit weights limit basis)
+pub IsWithinLimit-prop : (weights : Weights) (limit : ℕ) (basis : List Vector)
+    → IsProp (IsWithinLimit weights limit basis)
 IsWithinLimit-prop weights limit basis = hlevel (props, HasLeadUpTo-prop weights)
 
 pub HasSmallSize-prop : (m : Matrix) → IsProp (HasSmallSize m)

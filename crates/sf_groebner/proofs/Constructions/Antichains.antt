@@ -17,7 +17,8 @@ IsGrown (v ∷ vs) = (is_divided vs (lead_place v.terms) ≡ false) × IsGrown v
 
 -- the lead of neither divides that of the other
 abbrev pub AreIncomparable : Vector → Vector → Type 0
-AreIncomparable v w = (lead_divides v.terms (lead_place w.terms) ≡ false) × (lead_divides w.terms (lead_place v.terms) ≡ false)
+AreIncomparable v w =
+    (lead_divides v.terms (lead_place w.terms) ≡ false) × (lead_divides w.terms (lead_place v.terms) ≡ false)
 
 -- no lead divides another
 abbrev pub IsAntichain : List Vector → Type 0
@@ -34,16 +35,19 @@ antichain [] = []
 antichain (v ∷ vs) = v ∷ filter (is_kept v) (antichain vs)
 
 -- what holds of each still does
-pub AllByRecursion-antichain : (P : Vector → Type 0) (vs : List Vector) → AllByRecursion P vs → AllByRecursion P (antichain vs)
+pub AllByRecursion-antichain : (P : Vector → Type 0) (vs : List Vector) → AllByRecursion P vs
+    → AllByRecursion P (antichain vs)
 unfolding antichain
 AllByRecursion-antichain P [] h = tt
-AllByRecursion-antichain P (v ∷ vs) h = (h.0, AllByRecursion-filter_keeps P (is_kept v) (antichain vs) (AllByRecursion-antichain P vs h.1))
+AllByRecursion-antichain P (v ∷ vs) h =
+    (h.0, AllByRecursion-filter_keeps P (is_kept v) (antichain vs) (AllByRecursion-antichain P vs h.1))
 
 IsAntichain-filter : (test : Vector → Bool) (vs : List Vector) → IsAntichain vs → IsAntichain (filter test vs)
 IsAntichain-filter test [] h = tt
 IsAntichain-filter test (v ∷ vs) h =
     let rest = IsAntichain-filter test vs h.1 in
-    cond_cases (test v) (v ∷ filter test vs) (filter test vs) IsAntichain (λ e. (AllByRecursion-filter_keeps _ test vs h.0, rest)) (λ e. rest)
+    cond_cases (test v) (v ∷ filter test vs) (filter test vs) IsAntichain
+    (λ e. (AllByRecursion-filter_keeps _ test vs h.0, rest)) (λ e. rest)
 
 not_true : (b : Bool) → not b ≡ true → b ≡ false
 not_true true e = cc
@@ -57,7 +61,8 @@ pub IsAntichain-antichain : (vs : List Vector) → IsGrown vs → IsAntichain (a
 unfolding antichain
 IsAntichain-antichain [] h = tt
 IsAntichain-antichain (v ∷ vs) h = (
-  AllByRecursion-both (λ w. lead_divides v.terms (lead_place w.terms) ≡ false) (λ w. lead_divides w.terms (lead_place v.terms) ≡ false) (AreIncomparable v) (λ w a b. (a, b))
+  AllByRecursion-both (λ w. lead_divides v.terms (lead_place w.terms) ≡ false)
+      (λ w. lead_divides w.terms (lead_place v.terms) ≡ false) (AreIncomparable v) (λ w a b. (a, b))
       (filter (is_kept v) (antichain vs))
       (AllByRecursion-filter _ (is_kept v) (antichain vs) (λ w e. not_true (lead_divides v.terms (lead_place w.terms)) e))
       (AllByRecursion-filter_keeps _ (is_kept v) (antichain vs) (AllByRecursion-antichain _ vs (is_divided-none vs (lead_place v.terms) h.0))),
@@ -72,10 +77,12 @@ is_divided-antichain (v ∷ vs) k h =
     elim (or_cases (lead_divides v.terms k) (is_divided vs k) h) [
       | inl first ↦ or_left (lead_divides v.terms k) _ first
       | inr there ↦
-          let found = list_any-item (λ (w : Vector). lead_divides w.terms k) (antichain vs) (is_divided-antichain vs k there) in
+          let found =
+          list_any-item (λ (w : Vector). lead_divides w.terms k) (antichain vs) (is_divided-antichain vs k there) in
           let w : Vector = found.0 in
           elim (cases_Bool (lead_divides v.terms (lead_place w.terms))) [
-            | inl through ↦ or_left (lead_divides v.terms k) _ (lead_divides-trans v.terms (lead_place w.terms) k through (lead_divides-place w.terms k found.2))
+            | inl through ↦ or_left (lead_divides v.terms k) _
+                (lead_divides-trans v.terms (lead_place w.terms) k through (lead_divides-place w.terms k found.2))
             | inr kept ↦
                 or_right (lead_divides v.terms k) _
                 (list_any-from_item (λ (x : Vector). lead_divides x.terms k) (filter (is_kept v) (antichain vs)) w

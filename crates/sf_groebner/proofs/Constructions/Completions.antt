@@ -34,7 +34,8 @@ use Rattle.sf_groebner.proofs.Spanning.Generators.{AreGenerators, IsCombination,
 use Rattle.sf_groebner.proofs.Spanning.Submodules.{HasMonicAt, IsSubmodule, monic_multiple, rest-inside}
 
 -- a fact of each item, or one that an item gives
-each_or : {X : Type 0} (R P : X → Type 0) (Q : Type 0) → ((x : X) → R x → P x ⊎ Q) → (xs : List X) → AllByRecursion R xs → AllByRecursion P xs ⊎ Q
+each_or : {X : Type 0} (R P : X → Type 0) (Q : Type 0) → ((x : X) → R x → P x ⊎ Q) → (xs : List X) → AllByRecursion R xs
+    → AllByRecursion P xs ⊎ Q
 each_or R P Q f [] h = inl tt
 each_or R P Q f (x ∷ xs) h = elim (f x h.0) [
   | inr found ↦ inr found
@@ -66,16 +67,20 @@ pub record Completion (N : Vector → Type 0) : Type 0 where
   pub grown : IsGrown rows
   pub complete : (v : Vector) → N v → HasDividedLead rows v.terms
 
-module _ (ring : Ring) (prime : IsOverField ring) (target : List ℤ) (N : Vector → Type 0) (submodule : IsSubmodule ring target N) where
+module _ (ring : Ring) (prime : IsOverField ring) (target : List ℤ) (N : Vector → Type 0)
+    (submodule : IsSubmodule ring target N) where
   -- a lead of the module that no lead of the rows divides
   abbrev HasNewLead : List Vector → Type 0
   HasNewLead rows = (k : Place) × HasMonicAt N k × (is_divided rows k ≡ false)
 
-  pub monic_vectors : (rows : List Vector) → AllByRecursion (IsMonicIn N) rows → AllByRecursion (IsMonicVector ring target) rows
-  monic_vectors rows h = AllByRecursion-weaken _ _ (λ v k. record { vector = submodule.module_like.vectors v k.0; monic = k.1 }) rows h
+  pub monic_vectors : (rows : List Vector) → AllByRecursion (IsMonicIn N) rows
+      → AllByRecursion (IsMonicVector ring target) rows
+  monic_vectors rows h =
+      AllByRecursion-weaken _ _ (λ v k. record { vector = submodule.module_like.vectors v k.0; monic = k.1 }) rows h
 
   module _ (rows : List Vector) (monic : AllByRecursion (IsMonicIn N) rows) where
-    rest_or_new : (d : ℤ) (ts : List (Term Place)) → N (record { degree = d; terms = ts }) → IsReducedBy rows ts → (ts ≡ []) ⊎ HasNewLead rows
+    rest_or_new : (d : ℤ) (ts : List (Term Place)) → N (record { degree = d; terms = ts }) → IsReducedBy rows ts
+        → (ts ≡ []) ⊎ HasNewLead rows
     rest_or_new d [] h free = inl refl
     rest_or_new d (t ∷ ts) h free = inr (t.at, monic_multiple ring prime target N submodule d t ts h, free.0)
 
@@ -104,7 +109,8 @@ module _ (ring : Ring) (prime : IsOverField ring) (target : List ℤ) (N : Vecto
     ]
 
     -- a pair reduces to zero, or gives a new lead
-    pair_or_new : (i : ℕ) → i < length rows → (j : ℕ) → j < length rows → (HaveLeadsAtOnePosition rows i j → ReducesToZero ring rows i j) ⊎ HasNewLead rows
+    pair_or_new : (i : ℕ) → i < length rows → (j : ℕ) → j < length rows
+        → (HaveLeadsAtOnePosition rows i j → ReducesToZero ring rows i j) ⊎ HasNewLead rows
     pair_or_new i i_in j j_in =
         elim (cases_eq (lead_at rows i).position (lead_at rows j).position) [
           | inr apart ↦ inl (λ positions. absurd (apart positions))
@@ -112,14 +118,17 @@ module _ (ring : Ring) (prime : IsOverField ring) (target : List ℤ) (N : Vecto
               let vectors = monic_vectors rows monic in
               let d : ℤ = pair_degree ring prime target rows vectors i j i_in j_in positions in
               let inside : N (record { degree = d; terms = s_vector ring rows i j }) =
-              submodule.combinations rows (AllByRecursion-weaken _ _ (λ w k. k.0) rows monic) d (s_coefficients ring.modulus (lead_at rows) i j) (s_coefficients-homogeneous ring prime target rows vectors i j i_in j_in positions) in
+              submodule.combinations rows (AllByRecursion-weaken _ _ (λ w k. k.0) rows monic) d
+              (s_coefficients ring.modulus (lead_at rows) i j)
+              (s_coefficients-homogeneous ring prime target rows vectors i j i_in j_in positions) in
               elim (division_or_new (record { degree = d; terms = s_vector ring rows i j }) inside) [
                 | inl found ↦ inl (λ same. ReducesToZero-division ring prime target rows vectors i j i_in j_in positions found.0 found.1)
                 | inr found ↦ inr found
               ]
         ]
 
-    complete_or_new : (generators : List Vector) → AreGenerators ring N generators → ((v : Vector) → N v → HasDividedLead rows v.terms) ⊎ HasNewLead rows
+    complete_or_new : (generators : List Vector) → AreGenerators ring N generators
+        → ((v : Vector) → N v → HasDividedLead rows v.terms) ⊎ HasNewLead rows
     complete_or_new generators generate =
         elim (each_or N (IsCombination ring rows) (HasNewLead rows) combination_or_new generators generate.inside) [
           | inr found ↦ inr found
@@ -128,7 +137,8 @@ module _ (ring : Ring) (prime : IsOverField ring) (target : List ℤ) (N : Vecto
               (λ i i_in. below_or (λ j. HaveLeadsAtOnePosition rows i j → ReducesToZero ring rows i j) (HasNewLead rows) (length rows) (pair_or_new i i_in))) [
                 | inr found ↦ inr found
                 | inl pairs ↦ inl (λ v h.
-                    let c = IsCombination-trans ring rows (field_ring prime) generators combinations v (generate.spans v h) in
+                    let c =
+                    IsCombination-trans ring rows (field_ring prime) generators combinations v (generate.spans v h) in
                     subst (HasDividedLead rows) c.value
                     (buchberger ring (field_ring prime) rows (AllByRecursion-weaken _ _ (λ w k. record { canonical = (submodule.module_like.vectors w k.0).canonical; monic = k.1 }) rows monic)
                     (λ i j before j_in positions. pairs i (omega arith) j j_in positions)
@@ -141,7 +151,8 @@ module _ (ring : Ring) (prime : IsOverField ring) (target : List ℤ) (N : Vecto
         within t h = simp length-map at h
 
   module _ (generators : List Vector) (generate : AreGenerators ring N generators) where
-    complete_from : (ks : List Place) → Acc (AddsLead (length target)) ks → (rows : List Vector) → AllByRecursion (IsMonicIn N) rows → IsGrown rows → lead_places rows ≡ ks → Completion N
+    complete_from : (ks : List Place) → Acc (AddsLead (length target)) ks → (rows : List Vector)
+        → AllByRecursion (IsMonicIn N) rows → IsGrown rows → lead_places rows ≡ ks → Completion N
     complete_from ks (Acc.intro js h) rows monic grown leads =
         elim (complete_or_new rows monic generators generate) [
           | inl complete ↦ record { rows = rows; monic = monic; grown = grown; complete = complete }
@@ -149,9 +160,11 @@ module _ (ring : Ring) (prime : IsOverField ring) (target : List ℤ) (N : Vecto
               let k : Place = found.0 in
               let e = found.1 in
               let first : lead_place e.vector.terms ≡ k = ap lead_place e.terms in
-              let column : k.position < length target = (subst (IsHomogeneous ring.weights target e.vector.degree) e.terms (submodule.module_like.vectors e.vector e.inside).homogeneous).0.0 in
+              let column : k.position < length target =
+              (subst (IsHomogeneous ring.weights target e.vector.degree) e.terms (submodule.module_like.vectors e.vector e.inside).homogeneous).0.0 in
               let none : list_any (λ j. place_divides j k) js ≡ false =
-              ap (list_any (λ j. place_divides j k)) (sym leads) ∙ sym (is_divided-lead_places rows k (AllByRecursion-weaken _ _ (λ w m. m.1) rows monic)) ∙ found.2 in
+              ap (list_any (λ j. place_divides j k)) (sym leads)
+              ∙ sym (is_divided-lead_places rows k (AllByRecursion-weaken _ _ (λ w m. m.1) rows monic)) ∙ found.2 in
               complete_from (k ∷ js) (h (k ∷ js) (k, refl, none, column)) (e.vector ∷ rows)
               ((e.inside, subst IsMonic (sym e.terms) refl), monic)
               (ap (is_divided rows) first ∙ found.2, grown)

@@ -18,7 +18,8 @@ use Rattle.sf_groebner.proofs.Constructions.Divisions.{divide}
 use Rattle.sf_groebner.proofs.Constructions.MatrixBases.{basis-monic, syzygy_basis}
 use Rattle.sf_groebner.proofs.Spanning.SyzygyCombinations.{syzygy_submodule}
 
-pub lift_exists : (m : Matrix) → IsOverField m.ring → IsMatrix m → (v : Vector) → InSpan m v → (c : Vector) × IsLift m v c
+pub lift_exists : (m : Matrix) → IsOverField m.ring → IsMatrix m → (v : Vector) → InSpan m v
+    → (c : Vector) × IsLift m v c
 lift_exists m prime matrix v h =
     let ring : Ring = m.ring in
     let positive : IsRing ring = field_ring prime in
@@ -26,7 +27,8 @@ lift_exists m prime matrix v h =
     let syzygies : List Vector = b.0 in
     let given : Vector = h.coefficients in
     let e = divide ring prime (row_degrees m) syzygies (basis-monic ring (row_degrees m) (IsSyzygy m) (λ w k. k.coefficients) syzygies b.1) given h.homogeneous in
-    let zero : row_combination ring m.rows (row_combination ring syzygies e.quotients) ≡ [] = ((syzygy_submodule m positive).combinations syzygies b.1.inside given.degree e.quotients e.homogeneous).zero in
+    let zero : row_combination ring m.rows (row_combination ring syzygies e.quotients) ≡ [] =
+    ((syzygy_submodule m positive).combinations syzygies b.1.inside given.degree e.quotients e.homogeneous).zero in
     let terms : row_combination ring m.rows e.rest ≡ row_combination ring m.rows given.terms =
     sym (row_sum-nil ring positive.modulus (row_combination ring m.rows e.rest) (IsCanonical-row_combination ring positive.modulus m.rows e.rest))
     ∙ ap (row_sum ring (row_combination ring m.rows e.rest)) (sym zero)

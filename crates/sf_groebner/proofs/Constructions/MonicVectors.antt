@@ -35,19 +35,22 @@ pub record IsMonicVector (ring : Ring) (target : List ℤ) (v : Vector) : Type 0
   pub monic : IsMonic v.terms
 
 -- what holds of each row holds of that at a position
-pub AllByRecursion-row_at : (P : ℤ → List (Term Place) → Type 0) (rows : List Vector) → AllByRecursion (λ v. P v.degree v.terms) rows
+pub AllByRecursion-row_at : (P : ℤ → List (Term Place) → Type 0) (rows : List Vector)
+    → AllByRecursion (λ v. P v.degree v.terms) rows
     → (i : ℕ) → i < length rows → P (generator_degree (degrees_of rows) i) (row_at rows i)
 AllByRecursion-row_at P [] h i within = absurd (omega arith)
 AllByRecursion-row_at P (v ∷ vs) h zero within = h.0
 AllByRecursion-row_at P (v ∷ vs) h (suc i) within = AllByRecursion-row_at P vs h.1 i (omega arith)
 
 -- a lead that divides a place
-pub lead_divides-place : (ts : List (Term Place)) (k : Place) → lead_divides ts k ≡ true → PlaceDivides (lead_place ts) k
+pub lead_divides-place : (ts : List (Term Place)) (k : Place) → lead_divides ts k ≡ true
+    → PlaceDivides (lead_place ts) k
 lead_divides-place [] k h = cc
 lead_divides-place (t ∷ ts) k h = (Decides-place_divides t.at k).0 h
 
 -- the position of a row whose lead divides a place
-pub is_divided-position : (rows : List Vector) (k : Place) → is_divided rows k ≡ true → (i : ℕ) × (i < length rows) × PlaceDivides (lead_at rows i) k
+pub is_divided-position : (rows : List Vector) (k : Place) → is_divided rows k ≡ true
+    → (i : ℕ) × (i < length rows) × PlaceDivides (lead_at rows i) k
 is_divided-position [] k h = cc
 is_divided-position (v ∷ vs) k h =
     elim (or_cases (lead_divides v.terms k) (is_divided vs k) h) [
@@ -57,19 +60,26 @@ is_divided-position (v ∷ vs) k h =
 
 -- the coefficient at row i that gives a multiple of the row which begins with t
 abbrev pub step : List Vector → ℕ → Term Place → Term Place
-step rows i t = record { at = record { position = i; monomial = quotient t.at.monomial (lead_at rows i).monomial }; coefficient = t.coefficient }
+step rows i t = record {
+  at = record { position = i; monomial = quotient t.at.monomial (lead_at rows i).monomial };
+  coefficient = t.coefficient;
+}
 
-pub lead_multiple-step : (rows : List Vector) (i : ℕ) (t : Term Place) → PlaceDivides (lead_at rows i) t.at → lead_multiple (lead_at rows) (step rows i t).at ≡ t.at
+pub lead_multiple-step : (rows : List Vector) (i : ℕ) (t : Term Place) → PlaceDivides (lead_at rows i) t.at
+    → lead_multiple (lead_at rows) (step rows i t).at ≡ t.at
 lead_multiple-step rows i t h = place_product-quotient (lead_at rows i) t.at h
 
-module _ (ring : Ring) (target : List ℤ) (rows : List Vector) (monic : AllByRecursion (IsMonicVector ring target) rows) where
-  pub monic_row : (i : ℕ) → i < length rows → IsMonicVector ring target (record { degree = generator_degree (degrees_of rows) i; terms = row_at rows i })
+module _ (ring : Ring) (target : List ℤ) (rows : List Vector)
+    (monic : AllByRecursion (IsMonicVector ring target) rows) where
+  pub monic_row : (i : ℕ) → i < length rows
+      → IsMonicVector ring target (record { degree = generator_degree (degrees_of rows) i; terms = row_at rows i })
   monic_row = AllByRecursion-row_at (λ d ts. IsMonicVector ring target (record { degree = d; terms = ts })) rows monic
 
   pub monic_homogeneous : HasHomogeneousRows ring.weights target rows
   monic_homogeneous = AllByRecursion-weaken _ _ (λ v h. h.vector.homogeneous) rows monic
 
-  pub multiple_at : IsOverField ring → (i : ℕ) → i < length rows → (t : Term Place) → IsNonzeroResidue ring.modulus t → PlaceDivides (lead_at rows i) t.at
+  pub multiple_at : IsOverField ring → (i : ℕ) → i < length rows → (t : Term Place) → IsNonzeroResidue ring.modulus t
+      → PlaceDivides (lead_at rows i) t.at
       → (us : List (Term Place)) × (row_combination ring rows (step rows i t ∷ []) ≡ t ∷ us)
   multiple_at prime i within t nonzero divides =
       let row = monic_row i within in
@@ -82,13 +92,15 @@ module _ (ring : Ring) (target : List ℤ) (rows : List Vector) (monic : AllByRe
       } in (
         map (term_product place_product ring.modulus s) (tail_of (row_at rows i)),
         row_combination-one ring (field_ring prime).modulus rows (step rows i t)
-            ∙ multiple-map (place_keys ring.weights) ring.modulus s prime.prime nonzero (row_at rows i) row.vector.canonical
+            ∙ multiple-map (place_keys ring.weights) ring.modulus s prime.prime nonzero
+            (row_at rows i) row.vector.canonical
             ∙ ap (map (term_product place_product ring.modulus s)) shape
             ∙ ap (λ u. u ∷ map (term_product place_product ring.modulus s) (tail_of (row_at rows i))) first,
       )
 
   -- it has the degree of t
-  pub IsTermOfDegree-step : (i : ℕ) → i < length rows → (d : ℤ) (t : Term Place) → PlaceDivides (lead_at rows i) t.at → IsTermOfDegree ring.weights target d t → IsTermOfDegree ring.weights (degrees_of rows) d (step rows i t)
+  pub IsTermOfDegree-step : (i : ℕ) → i < length rows → (d : ℤ) (t : Term Place) → PlaceDivides (lead_at rows i) t.at
+      → IsTermOfDegree ring.weights target d t → IsTermOfDegree ring.weights (degrees_of rows) d (step rows i t)
   IsTermOfDegree-step i within d t divides h =
       let row = monic_row i within in
       let shape = IsMonic-shape (row_at rows i) row.monic in
@@ -96,10 +108,13 @@ module _ (ring : Ring) (target : List ℤ) (rows : List Vector) (monic : AllByRe
       let own : generator_degree (degrees_of rows) i ≡ place_degree ring.weights target lead.at =
       (subst (IsHomogeneous ring.weights target (generator_degree (degrees_of rows) i)) shape row.vector.homogeneous).0.1 in
       let sums : monomial_degree ring.weights t.at.monomial ≡ monomial_degree ring.weights (lead_at rows i).monomial + monomial_degree ring.weights (quotient t.at.monomial (lead_at rows i).monomial) =
-      ap (monomial_degree ring.weights) (sym (product-quotient t.at.monomial (lead_at rows i).monomial divides.1)) ∙ monomial_degree-product ring.weights (lead_at rows i).monomial (quotient t.at.monomial (lead_at rows i).monomial) in
+      ap (monomial_degree ring.weights) (sym (product-quotient t.at.monomial (lead_at rows i).monomial divides.1))
+      ∙ monomial_degree-product ring.weights (lead_at rows i).monomial
+      (quotient t.at.monomial (lead_at rows i).monomial) in
       let position : generator_degree target t.at.position ≡ generator_degree target (lead_at rows i).position = ap (generator_degree target) (sym divides.0) in (
         rw length-map within,
-        degrees d (generator_degree (degrees_of rows) i) (generator_degree target t.at.position) (generator_degree target (lead_at rows i).position) _ _ _ h.1 own position sums,
+        degrees d (generator_degree (degrees_of rows) i) (generator_degree target t.at.position)
+            (generator_degree target (lead_at rows i).position) _ _ _ h.1 own position sums,
       )
     where
       degrees : (d r g l : ℤ) (s a b : ℕ) → d ≡ g +ℤ pos s → r ≡ l +ℤ pos a → g ≡ l → s ≡ a + b → d ≡ r +ℤ pos b

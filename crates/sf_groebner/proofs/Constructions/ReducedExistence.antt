@@ -14,11 +14,13 @@ use Rattle.sf_groebner.proofs.Spanning.Generators.{AreGenerators}
 use Rattle.sf_groebner.proofs.Spanning.Submodules.{IsSubmodule}
 
 -- rows that divide no less
-HasDividedLead-more : (vs ws : List Vector) → ((k : Place) → is_divided vs k ≡ true → is_divided ws k ≡ true) → (ts : List (Term Place)) → HasDividedLead vs ts → HasDividedLead ws ts
+HasDividedLead-more : (vs ws : List Vector) → ((k : Place) → is_divided vs k ≡ true → is_divided ws k ≡ true)
+    → (ts : List (Term Place)) → HasDividedLead vs ts → HasDividedLead ws ts
 HasDividedLead-more vs ws more [] h = tt
 HasDividedLead-more vs ws more (t ∷ ts) h = more t.at h
 
-module _ (ring : Ring) (prime : IsOverField ring) (target : List ℤ) (N : Vector → Type 0) (submodule : IsSubmodule ring target N) where
+module _ (ring : Ring) (prime : IsOverField ring) (target : List ℤ) (N : Vector → Type 0)
+    (submodule : IsSubmodule ring target N) where
   from_completion : Completion N → (basis : List Vector) × IsReducedBasis ring.weights N basis
   from_completion c =
       let few : List Vector = antichain c.rows in
@@ -38,5 +40,6 @@ module _ (ring : Ring) (prime : IsOverField ring) (target : List ℤ) (N : Vecto
       )
 
   -- modulo a prime, each module with finitely many generators has a reduced basis
-  pub reduced_exists : (generators : List Vector) → AreGenerators ring N generators → (basis : List Vector) × IsReducedBasis ring.weights N basis
+  pub reduced_exists : (generators : List Vector) → AreGenerators ring N generators
+      → (basis : List Vector) × IsReducedBasis ring.weights N basis
   reduced_exists generators generate = from_completion (completion ring prime target N submodule generators generate)

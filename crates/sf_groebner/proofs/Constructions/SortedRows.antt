@@ -19,24 +19,28 @@ use Rattle.sf_groebner.proofs.Basics.Items.{AllByRecursion-both}
 use Rattle.sf_groebner.proofs.Constructions.LeadDivisors.{lead_divides-own}
 use Rattle.sf_groebner.proofs.Uniqueness.Sorted.{row_cmp-antisymm}
 
-lead_cmp-trans : (weights : Weights) (ts us vs : List (Term Place)) → lead_cmp weights ts us ≡ Less → lead_cmp weights us vs ≡ Less → lead_cmp weights ts vs ≡ Less
+lead_cmp-trans : (weights : Weights) (ts us vs : List (Term Place)) → lead_cmp weights ts us ≡ Less
+    → lead_cmp weights us vs ≡ Less → lead_cmp weights ts vs ≡ Less
 lead_cmp-trans weights [] us vs h k = cc
 lead_cmp-trans weights (t ∷ ts) [] vs h k = cc
 lead_cmp-trans weights (t ∷ ts) (u ∷ us) [] h k = cc
 lead_cmp-trans weights (t ∷ ts) (u ∷ us) (v ∷ vs) h k = (place_cmp_total weights).trans t.at u.at v.at h k
 
 -- rows in order: by degree, then by leads
-pub row_cmp-trans : (weights : Weights) (u v w : Vector) → row_cmp weights u v ≡ Less → row_cmp weights v w ≡ Less → row_cmp weights u w ≡ Less
+pub row_cmp-trans : (weights : Weights) (u v w : Vector) → row_cmp weights u v ≡ Less → row_cmp weights v w ≡ Less
+    → row_cmp weights u w ≡ Less
 row_cmp-trans weights u v w h k =
     elim (ordering_then-Less _ _ h) [
       | inl first ↦ elim (ordering_then-Less _ _ k) [
         | inl second ↦ by_degree (int_cmp_total.trans u.degree v.degree w.degree first second)
-        | inr both ↦ by_degree (subst (λ d. int_cmp u.degree d ≡ Less) (int_cmp-IsAntisymmetric v.degree w.degree both.0) first)
+        | inr both ↦ by_degree
+            (subst (λ d. int_cmp u.degree d ≡ Less) (int_cmp-IsAntisymmetric v.degree w.degree both.0) first)
       ]
       | inr one ↦ elim (ordering_then-Less _ _ k) [
         | inl second ↦ by_degree (int_cmp_total.congr u.degree v.degree w.degree one.0 ∙ second)
         | inr both ↦
-            ap (λ o. ordering_then o (lead_cmp weights w.terms u.terms)) (int_cmp_total.congr u.degree v.degree w.degree one.0 ∙ both.0)
+            ap (λ o. ordering_then o (lead_cmp weights w.terms u.terms))
+            (int_cmp_total.congr u.degree v.degree w.degree one.0 ∙ both.0)
             ∙ lead_cmp-trans weights w.terms v.terms u.terms both.1 one.1
       ]
     ]
@@ -44,19 +48,24 @@ row_cmp-trans weights u v w h k =
     by_degree : int_cmp u.degree w.degree ≡ Less → row_cmp weights u w ≡ Less
     by_degree less = ap (λ o. ordering_then o (lead_cmp weights w.terms u.terms)) less
 
-same_lead : (weights : Weights) (ts us : List (Term Place)) → IsMonic ts → IsMonic us → lead_cmp weights ts us ≡ Equal → lead_divides us (lead_place ts) ≡ true
+same_lead : (weights : Weights) (ts us : List (Term Place)) → IsMonic ts → IsMonic us → lead_cmp weights ts us ≡ Equal
+    → lead_divides us (lead_place ts) ≡ true
 same_lead weights [] us h k e = absurd h
 same_lead weights (t ∷ ts) [] h k e = absurd k
-same_lead weights (t ∷ ts) (u ∷ us) h k e = ap (λ j. place_divides u.at j) (place_cmp-Equal weights t.at u.at e) ∙ lead_divides-own (u ∷ us) k
+same_lead weights (t ∷ ts) (u ∷ us) h k e =
+    ap (λ j. place_divides u.at j) (place_cmp-Equal weights t.at u.at e) ∙ lead_divides-own (u ∷ us) k
 
-reduced_lead : (w : Vector) (ts : List (Term Place)) → IsMonic ts → IsReducedBy (w ∷ []) ts → lead_divides w.terms (lead_place ts) ≡ false
+reduced_lead : (w : Vector) (ts : List (Term Place)) → IsMonic ts → IsReducedBy (w ∷ []) ts
+    → lead_divides w.terms (lead_place ts) ≡ false
 reduced_lead w [] h free = absurd h
 reduced_lead w (t ∷ ts) h free = (or_parts (lead_divides w.terms t.at) false free.0).0
 
 -- rows that are apart do not stand at one place in the order
-pub AreApart-row_cmp : (weights : Weights) (v w : Vector) → IsMonic v.terms → IsMonic w.terms → AreApart v w → row_cmp weights v w ≢ Equal
+pub AreApart-row_cmp : (weights : Weights) (v w : Vector) → IsMonic v.terms → IsMonic w.terms → AreApart v w
+    → row_cmp weights v w ≢ Equal
 AreApart-row_cmp weights v w h k apart e =
-    let divided : lead_divides v.terms (lead_place w.terms) ≡ true = same_lead weights w.terms v.terms k h (ordering_then-Equal _ _ e).1 in
+    let divided : lead_divides v.terms (lead_place w.terms) ≡ true =
+    same_lead weights w.terms v.terms k h (ordering_then-Equal _ _ e).1 in
     let free : lead_divides v.terms (lead_place w.terms) ≡ false = reduced_lead v w.terms k apart.1 in
     clash (lead_divides v.terms (lead_place w.terms)) divided free
   where
@@ -66,35 +75,44 @@ AreApart-row_cmp weights v w h k apart e =
 -- a row at its place among sorted rows
 pub insert_row : (weights : Weights) → Vector → List Vector → List Vector
 insert_row weights v [] = v ∷ []
-insert_row weights v (w ∷ ws) = match_ordering (row_cmp weights v w) (v ∷ w ∷ ws) (v ∷ w ∷ ws) (w ∷ insert_row weights v ws)
+insert_row weights v (w ∷ ws) =
+    match_ordering (row_cmp weights v w) (v ∷ w ∷ ws) (v ∷ w ∷ ws) (w ∷ insert_row weights v ws)
 
-AllByRecursion-insert_row : (weights : Weights) (P : Vector → Type 0) (v : Vector) (ws : List Vector) → P v → AllByRecursion P ws → AllByRecursion P (insert_row weights v ws)
+AllByRecursion-insert_row : (weights : Weights) (P : Vector → Type 0) (v : Vector) (ws : List Vector) → P v
+    → AllByRecursion P ws → AllByRecursion P (insert_row weights v ws)
 unfolding insert_row
 AllByRecursion-insert_row weights P v [] h k = (h, tt)
 AllByRecursion-insert_row weights P v (w ∷ ws) h k =
-    match_ordering_cases (row_cmp weights v w) _ _ _ (AllByRecursion P) (λ less. (h, k)) (λ equal. (h, k)) (λ greater. (k.0, AllByRecursion-insert_row weights P v ws h k.1))
+    match_ordering_cases (row_cmp weights v w) _ _ _ (AllByRecursion P) (λ less. (h, k)) (λ equal. (h, k))
+    (λ greater. (k.0, AllByRecursion-insert_row weights P v ws h k.1))
 
-is_divided-insert_row : (weights : Weights) (v : Vector) (ws : List Vector) (k : Place) → is_divided (v ∷ ws) k ≡ true → is_divided (insert_row weights v ws) k ≡ true
+is_divided-insert_row : (weights : Weights) (v : Vector) (ws : List Vector) (k : Place) → is_divided (v ∷ ws) k ≡ true
+    → is_divided (insert_row weights v ws) k ≡ true
 unfolding insert_row
 is_divided-insert_row weights v [] k h = h
 is_divided-insert_row weights v (w ∷ ws) k h =
     match_ordering_cases (row_cmp weights v w) _ _ _ (λ l. is_divided l k ≡ true) (λ less. h) (λ equal. h)
     (λ greater. elim (or_cases (lead_divides v.terms k) (is_divided (w ∷ ws) k) h) [
-      | inl first ↦ or_right (lead_divides w.terms k) _ (is_divided-insert_row weights v ws k (or_left (lead_divides v.terms k) _ first))
+      | inl first ↦ or_right (lead_divides w.terms k) _
+          (is_divided-insert_row weights v ws k (or_left (lead_divides v.terms k) _ first))
       | inr behind ↦ elim (or_cases (lead_divides w.terms k) (is_divided ws k) behind) [
         | inl second ↦ or_left (lead_divides w.terms k) _ second
-        | inr rest ↦ or_right (lead_divides w.terms k) _ (is_divided-insert_row weights v ws k (or_right (lead_divides v.terms k) _ rest))
+        | inr rest ↦ or_right (lead_divides w.terms k) _
+            (is_divided-insert_row weights v ws k (or_right (lead_divides v.terms k) _ rest))
       ]
     ])
 
-IsApart-insert_row : (weights : Weights) (v : Vector) (ws : List Vector) → AllByRecursion (AreApart v) ws → IsApart ws → IsApart (insert_row weights v ws)
+IsApart-insert_row : (weights : Weights) (v : Vector) (ws : List Vector) → AllByRecursion (AreApart v) ws → IsApart ws
+    → IsApart (insert_row weights v ws)
 unfolding insert_row
 IsApart-insert_row weights v [] h k = (tt, tt)
 IsApart-insert_row weights v (w ∷ ws) h k =
     match_ordering_cases (row_cmp weights v w) _ _ _ IsApart (λ less. (h, k)) (λ equal. (h, k))
     (λ greater. (AllByRecursion-insert_row weights (AreApart w) v ws (h.0.1, h.0.0) k.0, IsApart-insert_row weights v ws h.1 k.1))
 
-IsSorted-insert_row : (weights : Weights) (v : Vector) (ws : List Vector) → AllByRecursion (λ w. row_cmp weights v w ≢ Equal) ws → IsSorted weights ws → IsSorted weights (insert_row weights v ws)
+IsSorted-insert_row : (weights : Weights) (v : Vector) (ws : List Vector)
+    → AllByRecursion (λ w. row_cmp weights v w ≢ Equal) ws → IsSorted weights ws
+    → IsSorted weights (insert_row weights v ws)
 unfolding insert_row
 IsSorted-insert_row weights v [] h k = (tt, tt)
 IsSorted-insert_row weights v (w ∷ ws) h k =
@@ -110,12 +128,15 @@ pub sort_rows : (weights : Weights) → List Vector → List Vector
 sort_rows weights [] = []
 sort_rows weights (v ∷ vs) = insert_row weights v (sort_rows weights vs)
 
-pub AllByRecursion-sort_rows : (weights : Weights) (P : Vector → Type 0) (vs : List Vector) → AllByRecursion P vs → AllByRecursion P (sort_rows weights vs)
+pub AllByRecursion-sort_rows : (weights : Weights) (P : Vector → Type 0) (vs : List Vector) → AllByRecursion P vs
+    → AllByRecursion P (sort_rows weights vs)
 unfolding sort_rows
 AllByRecursion-sort_rows weights P [] h = tt
-AllByRecursion-sort_rows weights P (v ∷ vs) h = AllByRecursion-insert_row weights P v (sort_rows weights vs) h.0 (AllByRecursion-sort_rows weights P vs h.1)
+AllByRecursion-sort_rows weights P (v ∷ vs) h =
+    AllByRecursion-insert_row weights P v (sort_rows weights vs) h.0 (AllByRecursion-sort_rows weights P vs h.1)
 
-pub is_divided-sort_rows : (weights : Weights) (vs : List Vector) (k : Place) → is_divided vs k ≡ true → is_divided (sort_rows weights vs) k ≡ true
+pub is_divided-sort_rows : (weights : Weights) (vs : List Vector) (k : Place) → is_divided vs k ≡ true
+    → is_divided (sort_rows weights vs) k ≡ true
 unfolding sort_rows
 is_divided-sort_rows weights [] k h = h
 is_divided-sort_rows weights (v ∷ vs) k h =
@@ -128,9 +149,12 @@ is_divided-sort_rows weights (v ∷ vs) k h =
 pub IsApart-sort_rows : (weights : Weights) (vs : List Vector) → IsApart vs → IsApart (sort_rows weights vs)
 unfolding sort_rows
 IsApart-sort_rows weights [] h = tt
-IsApart-sort_rows weights (v ∷ vs) h = IsApart-insert_row weights v (sort_rows weights vs) (AllByRecursion-sort_rows weights (AreApart v) vs h.0) (IsApart-sort_rows weights vs h.1)
+IsApart-sort_rows weights (v ∷ vs) h =
+    IsApart-insert_row weights v (sort_rows weights vs) (AllByRecursion-sort_rows weights (AreApart v) vs h.0)
+    (IsApart-sort_rows weights vs h.1)
 
-pub IsSorted-sort_rows : (weights : Weights) (vs : List Vector) → AllByRecursion (λ (v : Vector). IsMonic v.terms) vs → IsApart vs → IsSorted weights (sort_rows weights vs)
+pub IsSorted-sort_rows : (weights : Weights) (vs : List Vector) → AllByRecursion (λ (v : Vector). IsMonic v.terms) vs
+    → IsApart vs → IsSorted weights (sort_rows weights vs)
 unfolding sort_rows
 IsSorted-sort_rows weights [] m h = tt
 IsSorted-sort_rows weights (v ∷ vs) m h =

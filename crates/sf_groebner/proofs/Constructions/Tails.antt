@@ -44,17 +44,21 @@ HaveSameLeads (v ∷ vs) (w ∷ ws) = (lead_place w.terms ≡ lead_place v.terms
 abbrev AreMonic : List Vector → Type 0
 AreMonic = AllByRecursion (λ (v : Vector). IsMonic v.terms)
 
-lead_divides-same : (ts us : List (Term Place)) (k : Place) → IsMonic ts → IsMonic us → lead_place us ≡ lead_place ts → lead_divides us k ≡ lead_divides ts k
-lead_divides-same ts us k h l same = lead_divides-lead_place us k l ∙ ap (λ j. place_divides j k) same ∙ sym (lead_divides-lead_place ts k h)
+lead_divides-same : (ts us : List (Term Place)) (k : Place) → IsMonic ts → IsMonic us → lead_place us ≡ lead_place ts
+    → lead_divides us k ≡ lead_divides ts k
+lead_divides-same ts us k h l same =
+    lead_divides-lead_place us k l ∙ ap (λ j. place_divides j k) same ∙ sym (lead_divides-lead_place ts k h)
 
 -- such rows divide the same places
-pub is_divided-same : (vs ws : List Vector) (k : Place) → AreMonic vs → AreMonic ws → HaveSameLeads vs ws → is_divided ws k ≡ is_divided vs k
+pub is_divided-same : (vs ws : List Vector) (k : Place) → AreMonic vs → AreMonic ws → HaveSameLeads vs ws
+    → is_divided ws k ≡ is_divided vs k
 is_divided-same [] [] k h l same = refl
 is_divided-same [] (w ∷ ws) k h l same = absurd same
 is_divided-same (v ∷ vs) [] k h l same = absurd same
 is_divided-same (v ∷ vs) (w ∷ ws) k h l same = λ i. lead_divides-same v.terms w.terms k h.0 l.0 same.0 i || is_divided-same vs ws k h.1 l.1 same.1 i
 
-AreIncomparable-same : (v w : Vector) → IsMonic v.terms → IsMonic w.terms → lead_place w.terms ≡ lead_place v.terms → (vs ws : List Vector) → AreMonic vs → AreMonic ws → HaveSameLeads vs ws
+AreIncomparable-same : (v w : Vector) → IsMonic v.terms → IsMonic w.terms → lead_place w.terms ≡ lead_place v.terms
+    → (vs ws : List Vector) → AreMonic vs → AreMonic ws → HaveSameLeads vs ws
     → AllByRecursion (AreIncomparable v) vs → AllByRecursion (AreIncomparable w) ws
 AreIncomparable-same v w hv hw first [] [] h l same far = tt
 AreIncomparable-same v w hv hw first [] (y ∷ ys) h l same far = absurd same
@@ -67,22 +71,26 @@ AreIncomparable-same v w hv hw first (x ∷ xs) (y ∷ ys) h l same far = (
   AreIncomparable-same v w hv hw first xs ys h.1 l.1 same.1 far.1,
 )
 
-IsAntichain-same : (vs ws : List Vector) → AreMonic vs → AreMonic ws → HaveSameLeads vs ws → IsAntichain vs → IsAntichain ws
+IsAntichain-same : (vs ws : List Vector) → AreMonic vs → AreMonic ws → HaveSameLeads vs ws → IsAntichain vs
+    → IsAntichain ws
 IsAntichain-same [] [] h l same far = tt
 IsAntichain-same [] (w ∷ ws) h l same far = absurd same
 IsAntichain-same (v ∷ vs) [] h l same far = absurd same
-IsAntichain-same (v ∷ vs) (w ∷ ws) h l same far = (AreIncomparable-same v w h.0 l.0 same.0 vs ws h.1 l.1 same.1 far.0, IsAntichain-same vs ws h.1 l.1 same.1 far.1)
+IsAntichain-same (v ∷ vs) (w ∷ ws) h l same far =
+    (AreIncomparable-same v w h.0 l.0 same.0 vs ws h.1 l.1 same.1 far.0, IsAntichain-same vs ws h.1 l.1 same.1 far.1)
 
 -- what no lead of the rows divides, the lead of w doesn't
 abbrev DividesNoMore : List Vector → Vector → Type 0
 DividesNoMore rows w = (k : Place) → is_divided rows k ≡ false → lead_divides w.terms k ≡ false
 
-reduced_by_one : (rows : List Vector) (v w : Vector) → IsReducedRow rows v → DividesNoMore rows w → lead_divides w.terms (lead_place v.terms) ≡ false → IsReducedBy (w ∷ []) v.terms
+reduced_by_one : (rows : List Vector) (v w : Vector) → IsReducedRow rows v → DividesNoMore rows w
+    → lead_divides w.terms (lead_place v.terms) ≡ false → IsReducedBy (w ∷ []) v.terms
 reduced_by_one rows v w h fewer far =
     subst (IsReducedBy (w ∷ [])) (sym h.terms)
     (ap (λ b. b || false) far, AllByRecursion-weaken _ _ (λ t none. ap (λ b. b || false) (fewer t.at none)) h.tail h.free)
 
-IsApart-reduced : (rows vs : List Vector) → AllByRecursion (IsReducedRow rows) vs → AllByRecursion (DividesNoMore rows) vs → IsAntichain vs → IsApart vs
+IsApart-reduced : (rows vs : List Vector) → AllByRecursion (IsReducedRow rows) vs
+    → AllByRecursion (DividesNoMore rows) vs → IsAntichain vs → IsApart vs
 IsApart-reduced rows [] h fewer far = tt
 IsApart-reduced rows (v ∷ vs) h fewer far = (
   AllByRecursion-both (AreIncomparable v) (λ w. IsReducedRow rows w × DividesNoMore rows w) (AreApart v)
@@ -100,9 +108,11 @@ pub record ReducedRows (N : Vector → Type 0) (rows : List Vector) : Type 0 whe
   pub divides : (k : Place) → is_divided reduced k ≡ is_divided rows k
   pub apart : IsApart reduced
 
-module _ (ring : Ring) (prime : IsOverField ring) (target : List ℤ) (N : Vector → Type 0) (submodule : IsSubmodule ring target N)
+module _ (ring : Ring) (prime : IsOverField ring) (target : List ℤ) (N : Vector → Type 0)
+    (submodule : IsSubmodule ring target N)
     (rows : List Vector) (monic : AllByRecursion (IsMonicIn N) rows) where
-  reduced_row : (v : Vector) → N v → IsMonic v.terms → (w : Vector) × N w × IsReducedRow rows w × (lead_place w.terms ≡ lead_place v.terms)
+  reduced_row : (v : Vector) → N v → IsMonic v.terms
+      → (w : Vector) × N w × IsReducedRow rows w × (lead_place w.terms ≡ lead_place v.terms)
   reduced_row v h one =
       let positive : IsRing ring = field_ring prime in
       let lead : Term Place = record { at = lead_place v.terms; coefficient = 1 } in
@@ -117,9 +127,13 @@ module _ (ring : Ring) (prime : IsOverField ring) (target : List ℤ) (N : Vecto
       } in
       let back : row_sum ring us (negative ring.modulus multiples.terms) ≡ e.rest =
       ap (λ ts. row_sum ring ts (negative ring.modulus multiples.terms)) (sym e.sum)
-      ∙ add-negative_front (place_keys ring.weights) ring.modulus positive.modulus e.rest multiples.terms e.vector.canonical (IsCanonical-row_combination ring positive.modulus rows e.quotients) in
+      ∙ add-negative_front
+      (place_keys ring.weights) ring.modulus positive.modulus e.rest multiples.terms e.vector.canonical
+      (IsCanonical-row_combination ring positive.modulus rows e.quotients) in
       let terms : row_sum ring v.terms (negative ring.modulus multiples.terms) ≡ lead ∷ e.rest =
-      ap (λ ts. row_sum ring ts (negative ring.modulus multiples.terms)) shape ∙ add-first (place_keys ring.weights) ring.modulus positive.modulus lead us (negative ring.modulus multiples.terms) e.rest canonical back in (
+      ap (λ ts. row_sum ring ts (negative ring.modulus multiples.terms)) shape
+      ∙ add-first (place_keys ring.weights) ring.modulus positive.modulus lead us
+      (negative ring.modulus multiples.terms) e.rest canonical back in (
         record { degree = v.degree; terms = lead ∷ e.rest },
         subst N (λ i. record { degree = v.degree; terms = terms i })
             (submodule.module_like.differences v multiples h (submodule.combinations rows (AllByRecursion-weaken _ _ (λ w k. k.0) rows monic) v.degree e.quotients e.homogeneous) refl),
@@ -127,7 +141,8 @@ module _ (ring : Ring) (prime : IsOverField ring) (target : List ℤ) (N : Vecto
         refl,
       )
 
-  reduce_each : (vs : List Vector) → AllByRecursion (IsMonicIn N) vs → (ws : List Vector) × AllByRecursion N ws × AllByRecursion (IsReducedRow rows) ws × HaveSameLeads vs ws
+  reduce_each : (vs : List Vector) → AllByRecursion (IsMonicIn N) vs
+      → (ws : List Vector) × AllByRecursion N ws × AllByRecursion (IsReducedRow rows) ws × HaveSameLeads vs ws
   reduce_each [] h = ([], tt, tt, tt)
   reduce_each (v ∷ vs) h =
       let first = reduced_row v h.0.0 h.0.1 in
@@ -140,7 +155,8 @@ module _ (ring : Ring) (prime : IsOverField ring) (target : List ℤ) (N : Vecto
       let ws : List Vector = found.0 in
       let old : AreMonic rows = AllByRecursion-weaken _ _ (λ v h. h.1) rows monic in
       let new : AreMonic ws = AllByRecursion-weaken _ _ (λ w h. IsMonic-IsReducedRow rows w h) ws found.2 in
-      let divides : (k : Place) → is_divided ws k ≡ is_divided rows k = λ k. is_divided-same rows ws k old new found.3 in
+      let divides : (k : Place) → is_divided ws k ≡ is_divided rows k =
+      λ k. is_divided-same rows ws k old new found.3 in
       record {
         reduced = ws;
         inside = found.1;

@@ -16,16 +16,23 @@ homology_acts a b first second third maps = record {
   zeros = square-spans a.arriving a.here b.arriving b.here first second maps.before;
 }
 
-pub kernel_acts : (source target map other_source other_target other_map left right : Matrix) → IsModuleMap source other_source left → IsSquare map target other_map other_target left right
+pub kernel_acts : (source target map other_source other_target other_map left right : Matrix)
+    → IsModuleMap source other_source left → IsSquare map target other_map other_target left right
     → ActsOnClasses (IsCycle map target) (InSpan source) (IsCycle other_map other_target) (InSpan other_source) left
 kernel_acts source target map other_source other_target other_map left right sends square =
     record { elements = square-cycles map target other_map other_target left right square; zeros = sends.sends }
 
-module _ (target map other_target other_map left right : Matrix) (square : IsSquare map target other_map other_target left right) where
-  pub image_acts : ActsOnClasses (InSpan (stacked map target)) (InSpan target) (InSpan (stacked other_map other_target)) (InSpan other_target) right
-  image_acts = record { elements = square-spans map target other_map other_target left right square; zeros = square.right_map.sends }
+module _ (target map other_target other_map left right : Matrix)
+    (square : IsSquare map target other_map other_target left right) where
+  pub image_acts : ActsOnClasses (InSpan (stacked map target)) (InSpan target) (InSpan (stacked other_map other_target))
+      (InSpan other_target) right
+  image_acts = record {
+    elements = square-spans map target other_map other_target left right square;
+    zeros = square.right_map.sends;
+  }
 
-  pub cokernel_acts : ActsOnClasses (IsAny target.ring target.target) (InSpan (stacked map target)) (IsAny other_target.ring other_target.target) (InSpan (stacked other_map other_target)) right
+  pub cokernel_acts : ActsOnClasses (IsAny target.ring target.target) (InSpan (stacked map target))
+      (IsAny other_target.ring other_target.target) (InSpan (stacked other_map other_target)) right
   cokernel_acts = record {
     elements = λ v h.
         subst (λ q. IsVector q other_target.target (combined right v)) square.right_map.target_ring

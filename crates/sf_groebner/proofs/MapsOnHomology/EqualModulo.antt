@@ -18,7 +18,8 @@ use Rattle.sf_groebner.proofs.Spanning.Spans.{combined-difference}
 
 -- a difference taken away
 difference-back : {R : Type 0} (G : Group R) (u v : G.V) → G.plus u (G.minus (G.plus u (G.minus v))) ≡ v
-difference-back G u v = ap (G.plus u) (minus-difference G u v) ∙ left G u v (G.minus u) ∙ ap (G.plus v) (G.inverse u) ∙ G.unit v
+difference-back G u v =
+    ap (G.plus u) (minus-difference G u v) ∙ left G u v (G.minus u) ∙ ap (G.plus v) (G.inverse u) ∙ G.unit v
 
 module _ (ring : Ring) (positive : IsRing ring) where
   module _ (us vs : List (Term Place)) (u : IsCanonicalRow ring us) (v : IsCanonicalRow ring vs) where
@@ -30,15 +31,18 @@ module _ (ring : Ring) (positive : IsRing ring) where
     add-negative_again = λ i. (difference-plus (vectors ring positive.modulus) (us, u) (vs, v) i).0
 
   -- a vector that is equal to one of the module is in it
-  pub AreEqualModulo-inside : (degrees : List ℤ) (N : Vector → Type 0) → IsModuleLike ring degrees N → (u v : Vector) → IsCanonicalRow ring v.terms → AreEqualModulo ring N u v → N u → N v
+  pub AreEqualModulo-inside : (degrees : List ℤ) (N : Vector → Type 0) → IsModuleLike ring degrees N → (u v : Vector)
+      → IsCanonicalRow ring v.terms → AreEqualModulo ring N u v → N u → N v
   AreEqualModulo-inside degrees N module_like u v canonical same inside =
       let terms = add-negative_back u.terms v.terms (module_like.vectors u inside).canonical canonical in
       subst N (λ i. record { degree = same.degrees i; terms = terms i })
       (module_like.differences u (vector_difference ring u v) inside same.difference refl)
 
 -- a matrix that sends B into A sends what is equal modulo B to what is equal modulo A
-pub combined-AreEqualModulo : (map : Matrix) → IsRing map.ring → (B A : Vector → Type 0) → ((v : Vector) → B v → A (combined map v))
-    → (u v : Vector) → IsCanonicalRow map.ring v.terms → AreEqualModulo map.ring B u v → AreEqualModulo map.ring A (combined map u) (combined map v)
+pub combined-AreEqualModulo : (map : Matrix) → IsRing map.ring → (B A : Vector → Type 0)
+    → ((v : Vector) → B v → A (combined map v))
+    → (u v : Vector) → IsCanonicalRow map.ring v.terms → AreEqualModulo map.ring B u v
+    → AreEqualModulo map.ring A (combined map u) (combined map v)
 combined-AreEqualModulo map positive B A zeros u v canonical same = record {
   degrees = same.degrees;
   difference = subst A (combined-difference map positive u v canonical) (zeros _ same.difference);

@@ -22,10 +22,12 @@ module _ (ring : Ring) (positive : IsRing ring) (above : 1 < ring.modulus) where
   combined-identity : (degrees : List ℤ) (v : Vector) → IsVector ring degrees v → combined (identity ring degrees) v ≡ v
   combined-identity degrees v h = λ i. record { degree = v.degree; terms = row_combination-identity ring positive.modulus degrees v h i }
 
-  pub square-identity : (relations map : Matrix) → relations.ring ≡ ring → IsMapInto relations map → IsSquare map relations map relations (identity ring (row_degrees map)) (identity ring relations.target)
+  pub square-identity : (relations map : Matrix) → relations.ring ≡ ring → IsMapInto relations map
+      → IsSquare map relations map relations (identity ring (row_degrees map)) (identity ring relations.target)
   square-identity relations map same_ring into =
       let map_ring : map.ring ≡ ring = into.ring ∙ same_ring in
-      let submodule : IsSubmodule ring relations.target (InSpan relations) = span_submodule_of ring positive relations.target relations same_ring refl into.relations_matrix in
+      let submodule : IsSubmodule ring relations.target (InSpan relations) =
+      span_submodule_of ring positive relations.target relations same_ring refl into.relations_matrix in
       record {
         positive = positive;
         upper_map = into;
@@ -43,11 +45,16 @@ module _ (ring : Ring) (positive : IsRing ring) (above : 1 < ring.modulus) where
         left_source = row_degrees-identity ring (row_degrees map);
         left_target = refl;
         commutes = λ c h.
-            let coefficients : IsVector ring (row_degrees map) c = subst (λ q. IsVector q (row_degrees map) c) map_ring h in
+            let coefficients : IsVector ring (row_degrees map) c =
+            subst (λ q. IsVector q (row_degrees map) c) map_ring h in
             let value : Vector = combined map c in
-            let vector : IsVector ring relations.target value = IsVector-combined ring positive map map_ring into.map_matrix (row_degrees map) relations.target refl into.target c coefficients in
-            let first : combined (identity ring relations.target) value ≡ value = combined-identity relations.target value vector in
-            let second : combined map (combined (identity ring (row_degrees map)) c) ≡ value = ap (combined map) (combined-identity (row_degrees map) c coefficients) in
+            let vector : IsVector ring relations.target value =
+            IsVector-combined ring positive map map_ring into.map_matrix
+            (row_degrees map) relations.target refl into.target c coefficients in
+            let first : combined (identity ring relations.target) value ≡ value =
+            combined-identity relations.target value vector in
+            let second : combined map (combined (identity ring (row_degrees map)) c) ≡ value =
+            ap (combined map) (combined-identity (row_degrees map) c coefficients) in
             record {
               degrees = refl;
               difference =
@@ -57,9 +64,13 @@ module _ (ring : Ring) (positive : IsRing ring) (above : 1 < ring.modulus) where
             };
       }
 
-  pub chain_maps-identity : (a : ComplexPlace) → a.here.ring ≡ ring → a.beyond.ring ≡ ring → IsMapInto a.here a.arriving → IsMapInto a.beyond a.out → row_degrees a.out ≡ a.here.target
-      → AreChainMaps a a (identity ring (row_degrees a.arriving)) (identity ring a.here.target) (identity ring a.beyond.target)
+  pub chain_maps-identity : (a : ComplexPlace) → a.here.ring ≡ ring → a.beyond.ring ≡ ring → IsMapInto a.here a.arriving
+      → IsMapInto a.beyond a.out → row_degrees a.out ≡ a.here.target
+      → AreChainMaps a a (identity ring (row_degrees a.arriving)) (identity ring a.here.target)
+      (identity ring a.beyond.target)
   chain_maps-identity a here beyond arriving out meets = record {
     before = square-identity a.here a.arriving here arriving;
-    after = subst (λ ds. IsSquare a.out a.beyond a.out a.beyond (identity ring ds) (identity ring a.beyond.target)) meets (square-identity a.beyond a.out beyond out);
+    after =
+        subst (λ ds. IsSquare a.out a.beyond a.out a.beyond (identity ring ds) (identity ring a.beyond.target)) meets
+        (square-identity a.beyond a.out beyond out);
   }

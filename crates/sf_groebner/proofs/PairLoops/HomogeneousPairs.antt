@@ -18,7 +18,8 @@ use Rattle.sf_groebner.proofs.PairTheorems.MonicRows.{IsMonic-shape}
 use Rattle.sf_groebner.proofs.PairTheorems.Pairs.{lcm_place-comm}
 use Rattle.sf_groebner.proofs.PairTheorems.SVectors.{s_vector-below}
 
-module _ (ring : Ring) (prime : IsOverField ring) (target : List ℤ) (rows : List Vector) (monic : AllByRecursion (IsMonicVector ring target) rows)
+module _ (ring : Ring) (prime : IsOverField ring) (target : List ℤ) (rows : List Vector)
+    (monic : AllByRecursion (IsMonicVector ring target) rows)
     (i j : ℕ) (i_in : i < length rows) (j_in : j < length rows) (positions : HaveLeadsAtOnePosition rows i j) where
   -- the least common multiple of the leads, with the coefficient 1
   abbrev pub pair_lcm : Term Place
@@ -46,18 +47,21 @@ module _ (ring : Ring) (prime : IsOverField ring) (target : List ℤ) (rows : Li
       let row = monic_row ring target rows monic i i_in in
       (subst (IsHomogeneous ring.weights target _) (IsMonic-shape _ row.monic) row.vector.homogeneous).0.0
 
-  pub s_coefficients-homogeneous : IsHomogeneous ring.weights (degrees_of rows) pair_degree (s_coefficients ring.modulus (lead_at rows) i j)
+  pub s_coefficients-homogeneous : IsHomogeneous ring.weights (degrees_of rows) pair_degree
+      (s_coefficients ring.modulus (lead_at rows) i j)
   s_coefficients-homogeneous = (
     IsTermOfDegree-step ring target rows monic i i_in pair_degree pair_lcm divides_first (lead_inside, refl),
     (
-      IsTermOfDegree-step ring target rows monic j j_in pair_degree (record { at = lcm_place (lead_at rows) j i; coefficient = 1 }) divides_second
+      IsTermOfDegree-step ring target rows monic j j_in pair_degree
+          (record { at = lcm_place (lead_at rows) j i; coefficient = 1 }) divides_second
           (subst (λ (k : Place). IsTermOfDegree ring.weights target pair_degree (record { at = k; coefficient = 1 })) (sym same_lcm) (lead_inside, refl)),
       tt,
     ),
   )
 
   -- a division without a rest reduces the pair to zero
-  pub ReducesToZero-division : (e : Division ring target rows (record { degree = pair_degree; terms = s_vector ring rows i j })) → e.rest ≡ [] → ReducesToZero ring rows i j
+  pub ReducesToZero-division : (e : Division ring target rows
+      (record { degree = pair_degree; terms = s_vector ring rows i j })) → e.rest ≡ [] → ReducesToZero ring rows i j
   ReducesToZero-division e none =
       let positive : IsRing ring = field_ring prime in
       ReducesToZero-divided ring positive rows i j e.rest

@@ -12,7 +12,8 @@ use Rattle.sf_groebner.proofs.Basics.Items.{AllByRecursion-item}
 use Rattle.sf_groebner.proofs.PairLoops.PendingPairs.{IsPending, IsWaiting}
 use Rattle.sf_groebner.proofs.PairTheorems.BoundedCriterion.{buchberger_up_to}
 
-pub IsPending-up_to : (m : Matrix) → IsMatrix m → AllByRecursion (IsMonicRow m.ring) m.rows → IsRing m.ring → (d : ℤ) (pending : List (ℕ × ℕ))
+pub IsPending-up_to : (m : Matrix) → IsMatrix m → AllByRecursion (IsMonicRow m.ring) m.rows → IsRing m.ring
+    → (d : ℤ) (pending : List (ℕ × ℕ))
     → IsPending m.ring m.rows pending → AllByRecursion (λ (x : ℕ × ℕ). HasDegreeUpTo m d x.0 x.1 → ⊥) pending
     → (c : Vector) → IsCoefficients m c → c.degree ≤ℤ d → HasDividedLead m.rows (row_combination m.ring m.rows c.terms)
 IsPending-up_to m is_matrix monic positive d pending waits greater =

@@ -13,7 +13,9 @@ use Rattle.sf_groebner.proofs.PairTheorems.Buchberger.{ReducesToZero-chain, Redu
 pub IsItem-append : {X : Type 0} (x : X) (xs ys : List X) → IsItem x (xs ++ ys) → IsItem x xs ⊎ IsItem x ys
 IsItem-append x [] ys item = inr item
 IsItem-append x (z ∷ zs) ys (inl same) = inl (inl same)
-IsItem-append x (z ∷ zs) ys (inr item) = ⊎_elim (λ (first : IsItem x zs). inl (inr first)) (λ (second : IsItem x ys). inr second) (IsItem-append x zs ys item)
+IsItem-append x (z ∷ zs) ys (inr item) =
+    ⊎_elim (λ (first : IsItem x zs). inl (inr first)) (λ (second : IsItem x ys). inr second)
+    (IsItem-append x zs ys item)
 
 pub IsItem-append_first : {X : Type 0} (x : X) (xs ys : List X) → IsItem x xs → IsItem x (xs ++ ys)
 IsItem-append_first x [] ys item = absurd item
@@ -42,7 +44,8 @@ IsItem-pairs_before zero n i h = absurd (omega arith)
 IsItem-pairs_before (suc k) n i h =
     elim (cases_lt i k) [
       | inl before ↦ IsItem-append_first (i, n) (pairs_before k n) ((k, n) ∷ []) (IsItem-pairs_before k n i before)
-      | inr last ↦ let same : i ≡ k = omega arith in IsItem-append_second (i, n) (pairs_before k n) ((k, n) ∷ []) (inl (λ m. (same m, n)))
+      | inr last ↦ let same : i ≡ k =
+          omega arith in IsItem-append_second (i, n) (pairs_before k n) ((k, n) ∷ []) (inl (λ m. (same m, n)))
     ]
 
 module _ (ring : Ring) (positive : IsRing ring) (rows : List Vector) where
@@ -51,15 +54,20 @@ module _ (ring : Ring) (positive : IsRing ring) (rows : List Vector) where
   IsPending-end h i j pair = ⊎_elim (λ (item : ⊥). absurd item) (λ (r : ReducesToZero ring rows i j). r) (h i j pair)
 
   -- pairs that reduce to zero need not wait
-  pub IsPending-fewer : (pending left : List (ℕ × ℕ)) → ((i j : ℕ) → IsWaiting i j pending → IsWaiting i j left ⊎ ReducesToZero ring rows i j) → IsPending ring rows pending → IsPending ring rows left
+  pub IsPending-fewer : (pending left : List (ℕ × ℕ))
+      → ((i j : ℕ) → IsWaiting i j pending → IsWaiting i j left ⊎ ReducesToZero ring rows i j)
+      → IsPending ring rows pending → IsPending ring rows left
   IsPending-fewer pending left f h i j pair = ⊎_elim (f i j) (λ (r : ReducesToZero ring rows i j). inr r) (h i j pair)
 
   -- the last pair of the list reduces to zero
-  pub IsPending-pop : (left : List (ℕ × ℕ)) (i j : ℕ) → IsPending ring rows (left ++ (i, j) ∷ []) → ReducesToZero ring rows i j → IsPending ring rows left
+  pub IsPending-pop : (left : List (ℕ × ℕ)) (i j : ℕ) → IsPending ring rows (left ++ (i, j) ∷ [])
+      → ReducesToZero ring rows i j → IsPending ring rows left
   IsPending-pop left i j h r =
       IsPending-fewer (left ++ (i, j) ∷ []) left
       (λ k l item.
-      ⊎_elim (λ (first : IsWaiting k l left). inl first) (λ (second : IsWaiting k l ((i, j) ∷ [])). inr (of_pair k l second)) (IsItem-append (k, l) left ((i, j) ∷ []) item))
+      ⊎_elim (λ (first : IsWaiting k l left). inl first)
+      (λ (second : IsWaiting k l ((i, j) ∷ [])). inr (of_pair k l second))
+      (IsItem-append (k, l) left ((i, j) ∷ []) item))
       h
     where
       of_pair : (k l : ℕ) → IsWaiting k l ((i, j) ∷ []) → ReducesToZero ring rows k l
@@ -67,7 +75,8 @@ module _ (ring : Ring) (positive : IsRing ring) (rows : List Vector) where
       of_pair k l (inr none) = absurd none
 
   -- a new row, with which all pairs wait
-  pub IsPending-new_row : (pending : List (ℕ × ℕ)) (v : Vector) → IsPending ring rows pending → IsPending ring (rows ++ v ∷ []) (pending ++ pairs_before (length rows) (length rows))
+  pub IsPending-new_row : (pending : List (ℕ × ℕ)) (v : Vector) → IsPending ring rows pending
+      → IsPending ring (rows ++ v ∷ []) (pending ++ pairs_before (length rows) (length rows))
   IsPending-new_row pending v h i j pair =
       elim (cases_lt j (length rows)) [
         | inl old ↦
@@ -86,11 +95,14 @@ module _ (ring : Ring) (positive : IsRing ring) (rows : List Vector) where
       ]
 
   -- two rows that do not wait, in neither order
-  pub reduces_unless_pending : (pending : List (ℕ × ℕ)) → IsPending ring rows pending → (i j : ℕ) → i < length rows → j < length rows → i ≢ j → HaveLeadsAtOnePosition rows i j
+  pub reduces_unless_pending : (pending : List (ℕ × ℕ)) → IsPending ring rows pending → (i j : ℕ) → i < length rows
+      → j < length rows → i ≢ j → HaveLeadsAtOnePosition rows i j
       → (IsWaiting i j pending → ⊥) → (IsWaiting j i pending → ⊥) → ReducesToZero ring rows i j
   reduces_unless_pending pending h i j i_in j_in different positions not_first not_second =
       elim (cases_lt i j) [
-        | inl earlier ↦ ⊎_elim (λ (item : IsWaiting i j pending). absurd (not_first item)) (λ (r : ReducesToZero ring rows i j). r) (h i j (record { earlier = earlier; later = j_in; positions = positions }))
+        | inl earlier ↦ ⊎_elim (λ (item : IsWaiting i j pending). absurd (not_first item))
+            (λ (r : ReducesToZero ring rows i j). r)
+            (h i j (record { earlier = earlier; later = j_in; positions = positions }))
         | inr not_earlier ↦
             ReducesToZero-sym ring positive rows j i (sym positions)
             (⊎_elim (λ (item : IsWaiting j i pending). absurd (not_second item)) (λ (r : ReducesToZero ring rows j i). r)
@@ -101,8 +113,10 @@ module _ (ring : Ring) (positive : IsRing ring) (rows : List Vector) where
       strict m n le ne = omega arith
 
   -- the chain criterion: the last pair may be dropped where the lead of a row divides its least common multiple, and its pairs with that row do not wait
-  pub IsPending-chain : (left : List (ℕ × ℕ)) (i j k : ℕ) → IsPending ring rows (left ++ (i, k) ∷ []) → IsPair rows i k → j < length rows → PlaceDivides (lead_at rows j) (lcm_place (lead_at rows) i k)
-      → i ≢ j → j ≢ k → (IsWaiting i j left → ⊥) → (IsWaiting j i left → ⊥) → (IsWaiting j k left → ⊥) → (IsWaiting k j left → ⊥) → IsPending ring rows left
+  pub IsPending-chain : (left : List (ℕ × ℕ)) (i j k : ℕ) → IsPending ring rows (left ++ (i, k) ∷ []) → IsPair rows i k
+      → j < length rows → PlaceDivides (lead_at rows j) (lcm_place (lead_at rows) i k)
+      → i ≢ j → j ≢ k → (IsWaiting i j left → ⊥) → (IsWaiting j i left → ⊥) → (IsWaiting j k left → ⊥)
+      → (IsWaiting k j left → ⊥) → IsPending ring rows left
   IsPending-chain left i j k h pair j_in divides i_not j_not ij ji jk kj =
       IsPending-pop left i k h
       (ReducesToZero-chain ring positive rows i j k pair.positions divides
@@ -116,7 +130,8 @@ module _ (ring : Ring) (positive : IsRing ring) (rows : List Vector) where
 
       not_item : (m n : ℕ) → (m ≡ i → n ≡ k → ⊥) → (IsWaiting m n left → ⊥) → IsWaiting m n (left ++ (i, k) ∷ []) → ⊥
       not_item m n different none item =
-          ⊎_elim none (λ (last : IsWaiting m n ((i, k) ∷ [])). of_last last) (IsItem-append (m, n) left ((i, k) ∷ []) item)
+          ⊎_elim none (λ (last : IsWaiting m n ((i, k) ∷ [])). of_last last)
+          (IsItem-append (m, n) left ((i, k) ∷ []) item)
         where
           of_last : IsWaiting m n ((i, k) ∷ []) → ⊥
           of_last (inl same) = different (ap (λ x. x.0) same) (ap (λ x. x.1) same)

@@ -21,10 +21,12 @@ use Rattle.sf_groebner.proofs.PairTheorems.Pairs.{cofactor, place_product-pair_p
 
 -- the criterion up to degree d
 pub buchberger_up_to : (m : Matrix) → IsMatrix m → AllByRecursion (IsMonicRow m.ring) m.rows → IsRing m.ring → (d : ℤ)
-    → ((i j : ℕ) → i < j → j < length m.rows → HaveLeadsAtOnePosition m.rows i j → place_degree m.ring.weights m.target (lcm_place (lead_at m.rows) i j) ≤ℤ d → ReducesToZero m.ring m.rows i j)
+    → ((i j : ℕ) → i < j → j < length m.rows → HaveLeadsAtOnePosition m.rows i j
+    → place_degree m.ring.weights m.target (lcm_place (lead_at m.rows) i j) ≤ℤ d → ReducesToZero m.ring m.rows i j)
     → (c : Vector) → IsCoefficients m c → c.degree ≤ℤ d → HasDividedLead m.rows (row_combination m.ring m.rows c.terms)
 buchberger_up_to m is_matrix monic positive d pairs c coefficients bound =
-    buchberger_at m.ring positive m.rows monic (HasPlaceOfDegree m.ring.weights (row_degrees m) c.degree) (λ k h. within k.position h.0)
+    buchberger_at m.ring positive m.rows monic (HasPlaceOfDegree m.ring.weights (row_degrees m) c.degree)
+    (λ k h. within k.position h.0)
     (λ j k j_in k_in same earlier.
     let f = place_degree m.ring.weights (row_degrees m) (pair_place (lead_at m.rows) j.position k.position) in
     let a = cofactor (lead_at m.rows) j k in
@@ -34,7 +36,8 @@ buchberger_up_to m is_matrix monic positive d pairs c coefficients bound =
     ∙ ap (place_degree m.ring.weights (row_degrees m)) (place_product-pair_place_first (lead_at m.rows) j k same)
     ∙ sym j_in.1 in
     let below : place_degree m.ring.weights m.target (lcm_place (lead_at m.rows) j.position k.position) ≤ℤ d =
-    subst (λ g. g ≤ℤ d) (place_degree-pair_place m is_matrix monic j.position k.position (within j.position j_in.0)) (lower f (monomial_degree m.ring.weights a) c.degree total bound) in
+    subst (λ g. g ≤ℤ d) (place_degree-pair_place m is_matrix monic j.position k.position (within j.position j_in.0))
+    (lower f (monomial_degree m.ring.weights a) c.degree total bound) in
     subst
     (λ e. IsSettled m.ring (λ u. HasPlaceOfDegree m.ring.weights (row_degrees m) e (place_product a u)) (lead_at m.rows) (IsZero m.ring positive m.rows)
     (pair_place (lead_at m.rows) j.position k.position) (pair_place (lead_at m.rows) k.position j.position))

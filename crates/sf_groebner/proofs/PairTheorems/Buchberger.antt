@@ -25,24 +25,31 @@ IsInside rows k = k.position < length rows
 module _ (ring : Ring) (positive : IsRing ring) (rows : List Vector) where
   -- a pair that reduces to zero, as one that is settled, and back
   pub IsSettled-ReducesToZero : (i j : ℕ) → HaveLeadsAtOnePosition rows i j → ReducesToZero ring rows i j
-      → IsSettled ring (IsInside rows) (lead_at rows) (IsZero ring positive rows) (pair_place (lead_at rows) i j) (pair_place (lead_at rows) j i)
-  IsSettled-ReducesToZero i j positions h = settled-reduces ring positive rows (IsInside rows) (lead_at rows) i j positions h.steps h.below h.value
+      → IsSettled ring (IsInside rows) (lead_at rows) (IsZero ring positive rows) (pair_place (lead_at rows) i j)
+      (pair_place (lead_at rows) j i)
+  IsSettled-ReducesToZero i j positions h =
+      settled-reduces ring positive rows (IsInside rows) (lead_at rows) i j positions h.steps h.below h.value
 
   pub ReducesToZero-IsSettled : (i j : ℕ) → HaveLeadsAtOnePosition rows i j
-      → IsSettled ring (IsInside rows) (lead_at rows) (IsZero ring positive rows) (pair_place (lead_at rows) i j) (pair_place (lead_at rows) j i) → ReducesToZero ring rows i j
+      → IsSettled ring (IsInside rows) (lead_at rows) (IsZero ring positive rows) (pair_place (lead_at rows) i j)
+      (pair_place (lead_at rows) j i) → ReducesToZero ring rows i j
   ReducesToZero-IsSettled i j positions h = record {
     steps = h.lower;
-    below = subst (λ b. EachPlace (IsUnder ring.weights (IsInside rows) (lead_at rows) b) h.lower) (lead_multiple-pair_place (lead_at rows) j i ∙ sym (lcm_place-comm (lead_at rows) i j positions)) h.under;
+    below =
+        subst (λ b. EachPlace (IsUnder ring.weights (IsInside rows) (lead_at rows) b) h.lower)
+        (lead_multiple-pair_place (lead_at rows) j i ∙ sym (lcm_place-comm (lead_at rows) i j positions)) h.under;
     value = reduces-settled ring positive rows (IsInside rows) (lead_at rows) i j positions h;
   }
 
-  pub ReducesToZero-sym : (i j : ℕ) → HaveLeadsAtOnePosition rows i j → ReducesToZero ring rows i j → ReducesToZero ring rows j i
+  pub ReducesToZero-sym : (i j : ℕ) → HaveLeadsAtOnePosition rows i j → ReducesToZero ring rows i j
+      → ReducesToZero ring rows j i
   ReducesToZero-sym i j positions h =
       ReducesToZero-IsSettled j i (sym positions)
       (IsSettled-turn ring positive (IsZero ring positive rows) (IsZero-module ring positive rows) (IsInside rows) (lead_at rows) i j positions (IsSettled-ReducesToZero i j positions h))
 
   -- the chain criterion: a pair reduces to zero where the lead of a row divides its least common multiple, and the pairs with that row do
-  pub ReducesToZero-chain : (i j k : ℕ) → HaveLeadsAtOnePosition rows i k → PlaceDivides (lead_at rows j) (lcm_place (lead_at rows) i k)
+  pub ReducesToZero-chain : (i j k : ℕ) → HaveLeadsAtOnePosition rows i k
+      → PlaceDivides (lead_at rows j) (lcm_place (lead_at rows) i k)
       → ReducesToZero ring rows i j → ReducesToZero ring rows j k → ReducesToZero ring rows i k
   ReducesToZero-chain i j k positions divides first second =
       ReducesToZero-IsSettled i k positions
@@ -52,8 +59,11 @@ module _ (ring : Ring) (positive : IsRing ring) (rows : List Vector) where
   module _ (monic : AllByRecursion (IsMonicRow ring) rows) where
     -- the criterion for coefficients at the places in In
     pub buchberger_at : (In : Place → Type 0) → ((k : Place) → In k → k.position < length rows)
-        → ((j k : Place) → In j → In k → lead_multiple (lead_at rows) j ≡ lead_multiple (lead_at rows) k → j.position < k.position
-        → IsSettled ring (λ u. In (place_product (cofactor (lead_at rows) j k) u)) (lead_at rows) (IsZero ring positive rows) (pair_place (lead_at rows) j.position k.position) (pair_place (lead_at rows) k.position j.position))
+        → ((j k : Place) → In j → In k → lead_multiple (lead_at rows) j ≡ lead_multiple (lead_at rows) k
+        → j.position < k.position
+        → IsSettled ring (λ u. In (place_product (cofactor (lead_at rows) j k) u)) (lead_at rows)
+        (IsZero ring positive rows) (pair_place (lead_at rows) j.position k.position)
+        (pair_place (lead_at rows) k.position j.position))
         → (c : List (Term Place)) → EachPlace In c → HasDividedLead rows (row_combination ring rows c)
     buchberger_at In inside pairs c h =
         ⊎_elim
@@ -64,8 +74,10 @@ module _ (ring : Ring) (positive : IsRing ring) (rows : List Vector) where
         (settled_pairs ring (IsZero ring positive rows) (IsZero-module ring positive rows) In (lead_at rows) positive pairs) (λ s none. none) c h)
 
     -- the criterion
-    pub buchberger : ((i j : ℕ) → i < j → j < length rows → HaveLeadsAtOnePosition rows i j → ReducesToZero ring rows i j)
-        → (c : List (Term Place)) → AllByRecursion (IsForRows rows) c → HasDividedLead rows (row_combination ring rows c)
+    pub buchberger : ((i j : ℕ) → i < j → j < length rows → HaveLeadsAtOnePosition rows i j
+        → ReducesToZero ring rows i j)
+        → (c : List (Term Place)) → AllByRecursion (IsForRows rows) c
+        → HasDividedLead rows (row_combination ring rows c)
     buchberger pairs =
         buchberger_at (IsInside rows) (λ k h. h)
         (λ j k j_in k_in e earlier.

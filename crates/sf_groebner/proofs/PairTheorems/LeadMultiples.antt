@@ -15,9 +15,11 @@ use Rattle.sf_algebra.proofs.Terms.SameTotals.{SameTotals}
 use Rattle.sf_groebner.specs.Criterion.{lead_multiple}
 
 -- at each place in In the row begins with the coefficient 1 at its lead, which is in the first n columns
-pub record HasLeads (weights : Weights) (n : ℕ) (In : Place → Type 0) (rows : List Vector) (lead : ℕ → Place) : Type 0 where
+pub record HasLeads (weights : Weights) (n : ℕ) (In : Place → Type 0) (rows : List Vector)
+    (lead : ℕ → Place) : Type 0 where
   pub tail : ℕ → List (Term Place)
-  pub shape : (k : Place) → In k → row_at rows k.position ≡ record { at = lead k.position; coefficient = 1 } ∷ tail k.position
+  pub shape : (k : Place) → In k
+      → row_at rows k.position ≡ record { at = lead k.position; coefficient = 1 } ∷ tail k.position
   pub low : (k : Place) → In k → IsAboveEach (place_cmp weights) (lead k.position) (tail k.position)
   pub column : (k : Place) → In k → (lead k.position).position < n
 
@@ -45,7 +47,8 @@ pub record IsModule (p : ℕ) (S : List (Term Place) → Type 0) : Type 0 where
   pub has_same : (us vs : List (Term Place)) → SameTotals p us vs → S us → S vs
 
 -- two places with one image are settled: one is the other, and what is less, and a member of S
-pub record IsSettled (ring : Ring) (In : Place → Type 0) (lead : ℕ → Place) (S : List (Term Place) → Type 0) (j k : Place) : Type 0 where
+pub record IsSettled (ring : Ring) (In : Place → Type 0) (lead : ℕ → Place) (S : List (Term Place) → Type 0)
+    (j k : Place) : Type 0 where
   pub lower : List (Term Place)
   pub rest : List (Term Place)
   pub under : EachPlace (IsUnder ring.weights In lead (lead_multiple lead k)) lower
@@ -54,4 +57,5 @@ pub record IsSettled (ring : Ring) (In : Place → Type 0) (lead : ℕ → Place
 
 -- all pairs of places with one image are settled
 abbrev pub IsAllSettled : Ring → (Place → Type 0) → (ℕ → Place) → (List (Term Place) → Type 0) → Type 0
-IsAllSettled ring In lead S = (j k : Place) → In j → In k → lead_multiple lead j ≡ lead_multiple lead k → IsSettled ring In lead S j k
+IsAllSettled ring In lead S =
+    (j k : Place) → In j → In k → lead_multiple lead j ≡ lead_multiple lead k → IsSettled ring In lead S j k

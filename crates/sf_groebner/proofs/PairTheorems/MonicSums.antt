@@ -24,7 +24,9 @@ module _ (ring : Ring) (positive : IsRing ring) where
   module _ (target : List ℤ) (rows : List Vector) (monic : AllByRecursion (IsMonicRow ring) rows)
       (pairs : (i j : ℕ) → i < j → j < length rows → HaveLeadsAtOnePosition rows i j → ReducesToZero ring rows i j) where
     span_lead : (v : Vector) → InSpan (matrix_of ring target rows) v → HasDividedLead rows v.terms
-    span_lead v h = subst (λ (w : Vector). HasDividedLead rows w.terms) h.value (buchberger ring positive rows monic pairs h.coefficients.terms (IsWithin-coefficients (matrix_of ring target rows) h.coefficients h.homogeneous))
+    span_lead v h =
+        subst (λ (w : Vector). HasDividedLead rows w.terms) h.value
+        (buchberger ring positive rows monic pairs h.coefficients.terms (IsWithin-coefficients (matrix_of ring target rows) h.coefficients h.homogeneous))
 
     sum-zero_first : (v : Vector) (h : IsInSum ring rows IsZero v) → h.second.terms ≡ v.terms
     sum-zero_first v h =
@@ -40,14 +42,18 @@ module _ (ring : Ring) (positive : IsRing ring) where
   no_rows : (c : List (Term Place)) → AllByRecursion (IsForRows []) c → HasDividedLead [] (row_combination ring [] c)
   no_rows = buchberger ring positive [] tt (λ i j h k e. absurd (omega (arith, k)))
 
-  pub no_syzygies : (target : List ℤ) (v : Vector) → IsMonicRow ring v → IsReducedBasis ring.weights (IsSyzygy (matrix_of ring target (v ∷ []))) []
+  pub no_syzygies : (target : List ℤ) (v : Vector) → IsMonicRow ring v
+      → IsReducedBasis ring.weights (IsSyzygy (matrix_of ring target (v ∷ []))) []
   no_syzygies target v monic = record {
     inside = tt;
     monic = tt;
     complete = λ c h.
         let spanned : IsSpanned ring [] c.terms =
-        schreyer ring positive (v ∷ []) [] tt (monic, tt) (λ i j earlier within e. absurd (omega (arith, earlier, within))) c.terms (IsWithin-coefficients (matrix_of ring target (v ∷ [])) c h.coefficients) h.zero in
-        subst (HasDividedLead []) (spanned.value ∙ normal-canonical (place_cmp ring.weights) (place_cmp_linear ring.weights) ring.modulus positive.modulus c.terms h.coefficients.canonical) (no_rows spanned.coefficients spanned.for_rows);
+        schreyer ring positive (v ∷ []) [] tt (monic, tt)
+        (λ i j earlier within e. absurd (omega (arith, earlier, within))) c.terms
+        (IsWithin-coefficients (matrix_of ring target (v ∷ [])) c h.coefficients) h.zero in
+        subst (HasDividedLead [])
+        (spanned.value ∙ normal-canonical (place_cmp ring.weights) (place_cmp_linear ring.weights) ring.modulus positive.modulus c.terms h.coefficients.canonical) (no_rows spanned.coefficients spanned.for_rows);
     apart = tt;
     sorted = tt;
   }

@@ -19,7 +19,8 @@ constant_term x = record { at = one; coefficient = x }
 
 -- the coefficient 1 at a place, times a term
 pub SameTotals-at_place : (p : ℕ) (s : Term Monomial) (k : Place)
-    → SameTotals p (map (term_product place_product p s) (at_place k)) (record { at = place_product s.at k; coefficient = s.coefficient } ∷ [])
+    → SameTotals p (map (term_product place_product p s) (at_place k))
+    (record { at = place_product s.at k; coefficient = s.coefficient } ∷ [])
 SameTotals-at_place p s k = record {
   totals = λ g additive.
       total-cons p g _ []
@@ -32,17 +33,22 @@ SameTotals-at_place p s k = record {
 }
 
 -- the coefficient 1 at a place, x times
-pub SameTotals-constant : (p : ℕ) (x : ℕ) (k : Place) → SameTotals p (map (term_product place_product p (constant_term x)) (at_place k)) (record { at = k; coefficient = x } ∷ [])
+pub SameTotals-constant : (p : ℕ) (x : ℕ) (k : Place)
+    → SameTotals p (map (term_product place_product p (constant_term x)) (at_place k))
+    (record { at = k; coefficient = x } ∷ [])
 SameTotals-constant p x k =
     subst (λ l. SameTotals p (map (term_product place_product p (constant_term x)) (at_place k)) (record { at = l; coefficient = x } ∷ [])) (place_product-one k)
     (SameTotals-at_place p (constant_term x) k)
 
 -- what follows for the product with a monomial from a fact of each place
-pub EachPlace-products : (P Q : Place → Type 0) (p : ℕ) (s : Term Monomial) → ((k : Place) → P k → Q (place_product s.at k)) → (us : List (Term Place)) → EachPlace P us
+pub EachPlace-products : (P Q : Place → Type 0) (p : ℕ) (s : Term Monomial)
+    → ((k : Place) → P k → Q (place_product s.at k)) → (us : List (Term Place)) → EachPlace P us
     → EachPlace Q (map (term_product place_product p s) us)
 EachPlace-products P Q p s f [] h = tt
 EachPlace-products P Q p s f (u ∷ us) h = (f u.at h.0, EachPlace-products P Q p s f us h.1)
 
 -- a fact of the places stays one of their products with the monomial 1
-pub EachPlace-constant : (P : Place → Type 0) (p x : ℕ) (us : List (Term Place)) → EachPlace P us → EachPlace P (map (term_product place_product p (constant_term x)) us)
-EachPlace-constant P p x us h = EachPlace-products P P p (constant_term x) (λ k. subst P (sym (place_product-one k))) us h
+pub EachPlace-constant : (P : Place → Type 0) (p x : ℕ) (us : List (Term Place)) → EachPlace P us
+    → EachPlace P (map (term_product place_product p (constant_term x)) us)
+EachPlace-constant P p x us h =
+    EachPlace-products P P p (constant_term x) (λ k. subst P (sym (place_product-one k))) us h

@@ -29,17 +29,22 @@ abbrev pub HasPlaceOfDegree : Weights → List ℤ → ℤ → Place → Type 0
 HasPlaceOfDegree weights degrees d k = (k.position < length degrees) × (d ≡ place_degree weights degrees k)
 
 -- a product with a monomial has the sum of the degrees
-pub place_degree-product : (weights : Weights) (degrees : List ℤ) (a : Monomial) (k : Place) → place_degree weights degrees (place_product a k) ≡ place_degree weights degrees k +ℤ pos (monomial_degree weights a)
+pub place_degree-product : (weights : Weights) (degrees : List ℤ) (a : Monomial) (k : Place)
+    → place_degree weights degrees (place_product a k)
+    ≡ place_degree weights degrees k +ℤ pos (monomial_degree weights a)
 place_degree-product weights degrees a k = omega (arith, ints, monomial_degree-product weights a k.monomial)
 
 -- the lead of a homogeneous list has its degree
-place_degree-lead : (weights : Weights) (target : List ℤ) (d : ℤ) (ts : List (Term Place)) → IsMonic ts → IsHomogeneous weights target d ts → d ≡ place_degree weights target (lead_place ts)
+place_degree-lead : (weights : Weights) (target : List ℤ) (d : ℤ) (ts : List (Term Place)) → IsMonic ts
+    → IsHomogeneous weights target d ts → d ≡ place_degree weights target (lead_place ts)
 place_degree-lead weights target d [] monic h = absurd monic
 place_degree-lead weights target d (t ∷ ts) monic h = h.0.1
 
 module _ (m : Matrix) (is_matrix : IsMatrix m) (monic : AllByRecursion (IsMonicRow m.ring) m.rows) where
   -- an image has the degree of the coefficient's place
-  pub place_degree-image : (k : Place) → k.position < length m.rows → place_degree m.ring.weights m.target (lead_multiple (lead_at m.rows) k) ≡ place_degree m.ring.weights (row_degrees m) k
+  pub place_degree-image : (k : Place) → k.position < length m.rows
+      → place_degree m.ring.weights m.target (lead_multiple (lead_at m.rows) k)
+      ≡ place_degree m.ring.weights (row_degrees m) k
   place_degree-image k within =
       place_degree-product m.ring.weights m.target k.monomial (lead_at m.rows k.position)
       ∙ ap (λ d. d +ℤ pos (monomial_degree m.ring.weights k.monomial))
@@ -48,15 +53,21 @@ module _ (m : Matrix) (is_matrix : IsMatrix m) (monic : AllByRecursion (IsMonicR
       (IsHomogeneous-row_at m.ring.weights m.target m.rows (HasHomogeneousRows-from_IsMatrix m is_matrix) k.position)))
 
   -- the degree of a pair of rows: that of the least common multiple of their leads
-  pub place_degree-pair_place : (i j : ℕ) → i < length m.rows → place_degree m.ring.weights (row_degrees m) (pair_place (lead_at m.rows) i j) ≡ place_degree m.ring.weights m.target (lcm_place (lead_at m.rows) i j)
-  place_degree-pair_place i j within = sym (place_degree-image (pair_place (lead_at m.rows) i j) within) ∙ ap (place_degree m.ring.weights m.target) (lead_multiple-pair_place (lead_at m.rows) i j)
+  pub place_degree-pair_place : (i j : ℕ) → i < length m.rows
+      → place_degree m.ring.weights (row_degrees m) (pair_place (lead_at m.rows) i j)
+      ≡ place_degree m.ring.weights m.target (lcm_place (lead_at m.rows) i j)
+  place_degree-pair_place i j within =
+      sym (place_degree-image (pair_place (lead_at m.rows) i j) within)
+      ∙ ap (place_degree m.ring.weights m.target) (lead_multiple-pair_place (lead_at m.rows) i j)
 
-  module _ (positive : IsRing m.ring) (i j : ℕ) (i_in : i < length m.rows) (j_in : j < length m.rows) (positions : HaveLeadsAtOnePosition m.rows i j) (f : ℤ)
+  module _ (positive : IsRing m.ring) (i j : ℕ) (i_in : i < length m.rows) (j_in : j < length m.rows)
+      (positions : HaveLeadsAtOnePosition m.rows i j) (f : ℤ)
       (of_pair : f ≡ place_degree m.ring.weights (row_degrees m) (pair_place (lead_at m.rows) i j)) where
     within : (k : ℕ) → k < length m.rows → k < length (row_degrees m)
     within k h = simp length-map h
 
-    pub IsHomogeneous-pair_terms : IsHomogeneous m.ring.weights (row_degrees m) f (s_coefficients m.ring.modulus (lead_at m.rows) i j)
+    pub IsHomogeneous-pair_terms : IsHomogeneous m.ring.weights (row_degrees m) f
+        (s_coefficients m.ring.modulus (lead_at m.rows) i j)
     IsHomogeneous-pair_terms = (
       (within i i_in, of_pair),
       (
@@ -86,11 +97,14 @@ module _ (m : Matrix) (is_matrix : IsMatrix m) (monic : AllByRecursion (IsMonicR
 
     -- so times a monomial it is settled in the degree of the product
     pub settled_in_degree : ReducesToZero m.ring m.rows i j → (a : Monomial)
-        → IsSettled m.ring (λ u. HasPlaceOfDegree m.ring.weights (row_degrees m) (f +ℤ pos (monomial_degree m.ring.weights a)) (place_product a u)) (lead_at m.rows) (IsZero m.ring positive m.rows)
+        → IsSettled m.ring (λ u. HasPlaceOfDegree m.ring.weights (row_degrees m)
+        (f +ℤ pos (monomial_degree m.ring.weights a)) (place_product a u)) (lead_at m.rows)
+        (IsZero m.ring positive m.rows)
         (pair_place (lead_at m.rows) i j) (pair_place (lead_at m.rows) j i)
     settled_in_degree h a =
         let r = ReducesToZero-degree h in
-        settled-reduces m.ring positive m.rows (λ u. HasPlaceOfDegree m.ring.weights (row_degrees m) (f +ℤ pos (monomial_degree m.ring.weights a)) (place_product a u)) (lead_at m.rows) i j positions r.0.steps
+        settled-reduces m.ring positive m.rows
+        (λ u. HasPlaceOfDegree m.ring.weights (row_degrees m) (f +ℤ pos (monomial_degree m.ring.weights a)) (place_product a u)) (lead_at m.rows) i j positions r.0.steps
         (AllByRecursion-both _ _ _
         (λ (u : Term Place) (below : HasMultipleBelow m.ring.weights m.rows (lcm_place (lead_at m.rows) i j) u) (degree : IsTermOfDegree m.ring.weights (row_degrees m) f u).
         ((degree.0, ap (λ g. g +ℤ pos (monomial_degree m.ring.weights a)) degree.1 ∙ sym (place_degree-product m.ring.weights (row_degrees m) a u.at)), below.1))

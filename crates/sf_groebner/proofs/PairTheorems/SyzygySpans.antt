@@ -23,11 +23,14 @@ use Rattle.sf_groebner.proofs.PairTheorems.Kernels.{row_combination-SameTotals}
 use Rattle.sf_groebner.proofs.PairTheorems.Schreyer.{IsSpanned, schreyer}
 
 -- a homogeneous vector that is a combination of homogeneous rows is one with homogeneous coefficients
-pub InSpan-IsSpanned : (m : Matrix) → IsRing m.ring → IsMatrix m → (v : Vector) → IsVector m.ring m.target v → IsSpanned m.ring m.rows v.terms → InSpan m v
+pub InSpan-IsSpanned : (m : Matrix) → IsRing m.ring → IsMatrix m → (v : Vector) → IsVector m.ring m.target v
+    → IsSpanned m.ring m.rows v.terms → InSpan m v
 InSpan-IsSpanned m positive is_matrix v vector h = record {
   coefficients = record { degree = v.degree; terms = degree_part m.ring.weights (row_degrees m) v.degree coefficients };
   homogeneous = record {
-    canonical = IsCanonical-filter _ (place_cmp m.ring.weights) m.ring.modulus coefficients (IsCanonical-normal (place_cmp m.ring.weights) (place_cmp_linear m.ring.weights) m.ring.modulus positive.modulus h.coefficients);
+    canonical =
+        IsCanonical-filter _ (place_cmp m.ring.weights) m.ring.modulus coefficients
+        (IsCanonical-normal (place_cmp m.ring.weights) (place_cmp_linear m.ring.weights) m.ring.modulus positive.modulus h.coefficients);
     homogeneous = IsHomogeneous-degree_part m.ring.weights (row_degrees m) v.degree coefficients;
   };
   value = λ i. record { degree = v.degree; terms = row_combination-IsVector m positive.modulus is_matrix v vector coefficients value i };
@@ -38,15 +41,20 @@ InSpan-IsSpanned m positive is_matrix v vector h = record {
 
     value : row_combination m.ring m.rows coefficients ≡ v.terms
     value =
-        row_combination-SameTotals m.ring positive m.rows (SameTotals-normal (place_cmp m.ring.weights) (place_cmp_linear m.ring.weights) m.ring.modulus h.coefficients)
+        row_combination-SameTotals m.ring positive m.rows
+        (SameTotals-normal (place_cmp m.ring.weights) (place_cmp_linear m.ring.weights) m.ring.modulus h.coefficients)
         ∙ h.value
-        ∙ normal-canonical (place_cmp m.ring.weights) (place_cmp_linear m.ring.weights) m.ring.modulus positive.modulus v.terms vector.canonical
+        ∙ normal-canonical (place_cmp m.ring.weights)
+        (place_cmp_linear m.ring.weights) m.ring.modulus positive.modulus v.terms vector.canonical
 
-pub schreyer_homogeneous : (m : Matrix) → IsRing m.ring → AllByRecursion (IsMonicRow m.ring) m.rows → (zs : List Vector) → AllByRecursion (IsSyzygy m) zs
-    → ((i j : ℕ) → i < j → j < length m.rows → HaveLeadsAtOnePosition m.rows i j → (k : ℕ) × (k < length zs) × IsPairSyzygy m.ring m.rows i j (row_at zs k))
+pub schreyer_homogeneous : (m : Matrix) → IsRing m.ring → AllByRecursion (IsMonicRow m.ring) m.rows → (zs : List Vector)
+    → AllByRecursion (IsSyzygy m) zs
+    → ((i j : ℕ) → i < j → j < length m.rows → HaveLeadsAtOnePosition m.rows i j
+    → (k : ℕ) × (k < length zs) × IsPairSyzygy m.ring m.rows i j (row_at zs k))
     → (c : Vector) → IsSyzygy m c → InSpan (record { ring = m.ring; target = row_degrees m; rows = zs }) c
 schreyer_homogeneous m positive monic zs syzygies pairs c h =
-    InSpan-IsSpanned (record { ring = m.ring; target = row_degrees m; rows = zs }) positive (AllByRecursion-weaken _ _ (λ z s. s.coefficients) zs syzygies) c h.coefficients
+    InSpan-IsSpanned (record { ring = m.ring; target = row_degrees m; rows = zs }) positive
+    (AllByRecursion-weaken _ _ (λ z s. s.coefficients) zs syzygies) c h.coefficients
     (schreyer m.ring positive m.rows zs (AllByRecursion-weaken _ _ (λ z s. s.zero) zs syzygies) monic pairs c.terms
     (AllByRecursion-weaken _ _ (λ t k. within t.at.position k.0) c.terms h.coefficients.homogeneous) h.zero)
   where

@@ -14,8 +14,10 @@ use Rattle.sf_groebner.proofs.PartsOfBases.PartSums.{part_terms-difference}
 use Rattle.sf_groebner.proofs.PartsOfBases.ReducedParts.{IsPart, reduced_part}
 use Rattle.sf_groebner.proofs.Spanning.Modules.{IsModuleLike}
 
-module _ (ring : Ring) (degrees : List ℤ) (N : Vector → Type 0) (vectors : (v : Vector) → N v → IsVector ring degrees v) (n : ℕ) where
-  descending : (w : Vector) → N w → (t : Term Place) (ts : List (Term Place)) → w.terms ≡ t ∷ ts → IsDescending (place_cmp ring.weights) (t ∷ ts)
+module _ (ring : Ring) (degrees : List ℤ) (N : Vector → Type 0) (vectors : (v : Vector) → N v → IsVector ring degrees v)
+    (n : ℕ) where
+  descending : (w : Vector) → N w → (t : Term Place) (ts : List (Term Place)) → w.terms ≡ t ∷ ts
+      → IsDescending (place_cmp ring.weights) (t ∷ ts)
   descending w h t ts e = subst (IsDescending (place_cmp ring.weights)) e (vectors w h).canonical.descending
 
   pub first_part : IsPart 0 n (has_first_part n) N (IsFirstPart n N)
@@ -27,17 +29,23 @@ module _ (ring : Ring) (degrees : List ℤ) (N : Vector → Type 0) (vectors : (
   }
 
   -- the nonzero first parts of the elements are the reduced basis of the first parts of all vectors
-  pub reduced-first_parts : (basis : List Vector) → IsReducedBasis ring.weights N basis → IsReducedBasis ring.weights (IsFirstPart n N) (first_parts n basis)
+  pub reduced-first_parts : (basis : List Vector) → IsReducedBasis ring.weights N basis
+      → IsReducedBasis ring.weights (IsFirstPart n N) (first_parts n basis)
   reduced-first_parts basis h = reduced_part 0 n (has_first_part n) N (IsFirstPart n N) first_part ring.weights basis h
 
   -- differences of first parts are first parts
-  pub first_part_module : IsRing ring → ((u v : Vector) → N u → N v → u.degree ≡ v.degree → N (vector_difference ring u v)) → IsModuleLike ring (slice_range degrees 0 n) (IsFirstPart n N)
+  pub first_part_module : IsRing ring
+      → ((u v : Vector) → N u → N v → u.degree ≡ v.degree → N (vector_difference ring u v))
+      → IsModuleLike ring (slice_range degrees 0 n) (IsFirstPart n N)
   first_part_module positive differences = record {
     vectors = λ v h. subst (IsVector ring (slice_range degrees 0 n)) h.part (IsVector-part_terms ring degrees 0 n h.whole (vectors h.whole h.inside));
     differences = λ u v h k e. record {
       whole = vector_difference ring h.whole k.whole;
-      inside = differences h.whole k.whole h.inside k.inside (ap (λ x. x.degree) h.part ∙ e ∙ sym (ap (λ x. x.degree) k.part));
-      part = (λ i. record { degree = h.whole.degree; terms = part_terms-difference ring 0 n positive h.whole.terms k.whole.terms i }) ∙ (λ i. vector_difference ring (h.part i) (k.part i));
+      inside =
+          differences h.whole k.whole h.inside k.inside
+          (ap (λ x. x.degree) h.part ∙ e ∙ sym (ap (λ x. x.degree) k.part));
+      part =
+          (λ i. record { degree = h.whole.degree; terms = part_terms-difference ring 0 n positive h.whole.terms k.whole.terms i }) ∙ (λ i. vector_difference ring (h.part i) (k.part i));
     };
   }
 
@@ -60,5 +68,8 @@ module _ (ring : Ring) (degrees : List ℤ) (N : Vector → Type 0) (vectors : (
     lifted = λ v h t ts e. (h.0, h.1, ap (λ us. not (has_terms us)) h.2, h.3);
   }
 
-  pub reduced-last_parts : (basis : List Vector) → IsReducedBasis ring.weights N basis → IsReducedBasis ring.weights IsLastPart (last_parts n (length degrees) basis)
-  reduced-last_parts basis h = reduced_part n (length degrees) (λ (w : Vector). not (has_first_part n w)) N IsLastPart last_part ring.weights basis h
+  pub reduced-last_parts : (basis : List Vector) → IsReducedBasis ring.weights N basis
+      → IsReducedBasis ring.weights IsLastPart (last_parts n (length degrees) basis)
+  reduced-last_parts basis h =
+      reduced_part n (length degrees)
+      (λ (w : Vector). not (has_first_part n w)) N IsLastPart last_part ring.weights basis h

@@ -18,7 +18,8 @@ use Rattle.sf_groebner.proofs.Uniqueness.Apart.{IsApart-items}
 
 module _ (m : Matrix) (positive : IsRing m.ring) (basis : List Vector) (h : IsGraphBasis m basis) where
   coefficients-reduced : (w : Vector) → IsItem w basis → has_first_part (length m.target) w ≡ true
-      → IsReducedBy (last_parts (length m.target) (length m.target + length m.rows) basis) (part_terms (length m.target) (length m.target + length m.rows) w.terms)
+      → IsReducedBy (last_parts (length m.target) (length m.target + length m.rows) basis)
+      (part_terms (length m.target) (length m.target + length m.rows) w.terms)
   coefficients-reduced w item first =
       let n = length m.target in
       let end = length (graph_degrees m) in
@@ -30,7 +31,8 @@ module _ (m : Matrix) (positive : IsRing m.ring) (basis : List Vector) (h : IsGr
       (AllByRecursion-from_items (λ v. keep v ≡ true → IsReducedBy (v ∷ []) w.terms) basis
       (λ v other kept. IsApart-items basis w v h.apart item other (λ same. let clash : keep w ≡ true = ap keep same ∙ kept in let no = sym (ap not first) ∙ clash in cc))))
 
-  graph_lift : (w : Vector) → IsItem w basis → has_first_part (length m.target) w ≡ true → IsLift m (vector_part 0 (length m.target) w) (vector_part (length m.target) (length m.target + length m.rows) w)
+  graph_lift : (w : Vector) → IsItem w basis → has_first_part (length m.target) w ≡ true
+      → IsLift m (vector_part 0 (length m.target) w) (vector_part (length m.target) (length m.target + length m.rows) w)
   graph_lift w item first =
       let inside = AllByRecursion-item (IsGraphVector m) basis w h.inside item in
       record {
@@ -41,9 +43,13 @@ module _ (m : Matrix) (positive : IsRing m.ring) (basis : List Vector) (h : IsGr
         reduced = coefficients-reduced w item first;
       }
 
-  pub graph_lifts : AllByRecursion (λ w. IsLift m (vector_part 0 (length m.target) w) (vector_part (length m.target) (length m.target + length m.rows) w)) (filter (has_first_part (length m.target)) basis)
+  pub graph_lifts : AllByRecursion
+      (λ w. IsLift m (vector_part 0 (length m.target) w)
+      (vector_part (length m.target) (length m.target + length m.rows) w))
+      (filter (has_first_part (length m.target)) basis)
   graph_lifts =
       let each = AllByRecursion-from_items (λ w. has_first_part (length m.target) w ≡ true → IsLift m (vector_part 0 (length m.target) w) (vector_part (length m.target) (length m.target + length m.rows) w)) basis graph_lift in
-      AllByRecursion-both _ (λ w. has_first_part (length m.target) w ≡ true) _ (λ w f k. f k) (filter (has_first_part (length m.target)) basis)
+      AllByRecursion-both _ (λ w. has_first_part (length m.target) w ≡ true) _ (λ w f k. f k)
+      (filter (has_first_part (length m.target)) basis)
       (AllByRecursion-filter_keeps _ (has_first_part (length m.target)) basis each)
       (AllByRecursion-filter _ (has_first_part (length m.target)) basis (λ w k. k))

@@ -30,26 +30,35 @@ part_terms-moved n k [] h = refl
 part_terms-moved n k (v ∷ vs) h =
     let within : v.at.position < k = h.0 in
     let back : (n + v.at.position) - n ≡ v.at.position = omega arith in
-    part_terms-inside n (n + k) (record { at = record { position = n + v.at.position; monomial = v.at.monomial }; coefficient = v.coefficient }) (moved n vs) (omega arith) (omega arith)
+    part_terms-inside n (n + k)
+    (record { at = record { position = n + v.at.position; monomial = v.at.monomial }; coefficient = v.coefficient })
+    (moved n vs) (omega arith) (omega arith)
     ∙ (λ i. record { at = record { position = back i; monomial = v.at.monomial }; coefficient = v.coefficient } ∷ part_terms-moved n k vs h.1 i)
 
 -- the first part of a pair, and the last
-pub part_terms-pair_first : (n : ℕ) (us vs : List (Term Place)) → IsWithin n us → part_terms 0 n (paired_terms n us vs) ≡ us
+pub part_terms-pair_first : (n : ℕ) (us vs : List (Term Place)) → IsWithin n us
+    → part_terms 0 n (paired_terms n us vs) ≡ us
 part_terms-pair_first n us vs h =
     part_terms-append 0 n us (moved n vs)
     ∙ (λ i. part_terms-whole n us h i ++ part_terms-past n (moved n vs) (moved_past n vs) i)
     ∙ append-nil us
 
-pub part_terms-pair_last : (n k : ℕ) (us vs : List (Term Place)) → IsWithin n us → IsWithin k vs → part_terms n (n + k) (paired_terms n us vs) ≡ vs
+pub part_terms-pair_last : (n k : ℕ) (us vs : List (Term Place)) → IsWithin n us → IsWithin k vs
+    → part_terms n (n + k) (paired_terms n us vs) ≡ vs
 part_terms-pair_last n k us vs h l =
     part_terms-append n (n + k) us (moved n vs)
     ∙ (λ i. part_terms-before n (n + k) us h i ++ part_terms-moved n k vs l i)
 
-IsDescending-append : (weights : Weights) (us vs : List (Term Place)) → IsDescending (place_cmp weights) us → IsDescending (place_cmp weights) vs → AllByRecursion (λ u. AllByRecursion (λ v. place_cmp weights v.at u.at ≡ Less) vs) us → IsDescending (place_cmp weights) (us ++ vs)
+IsDescending-append : (weights : Weights) (us vs : List (Term Place)) → IsDescending (place_cmp weights) us
+    → IsDescending (place_cmp weights) vs
+    → AllByRecursion (λ u. AllByRecursion (λ v. place_cmp weights v.at u.at ≡ Less) vs) us
+    → IsDescending (place_cmp weights) (us ++ vs)
 IsDescending-append weights [] vs h k below = k
-IsDescending-append weights (u ∷ us) vs h k below = (AllByRecursion-append _ us vs h.0 below.0, IsDescending-append weights us vs h.1 k below.1)
+IsDescending-append weights (u ∷ us) vs h k below =
+    (AllByRecursion-append _ us vs h.0 below.0, IsDescending-append weights us vs h.1 k below.1)
 
-pub IsCanonical-pair : (ring : Ring) (n : ℕ) (us vs : List (Term Place)) → IsWithin n us → IsCanonicalRow ring us → IsCanonicalRow ring vs → IsCanonicalRow ring (paired_terms n us vs)
+pub IsCanonical-pair : (ring : Ring) (n : ℕ) (us vs : List (Term Place)) → IsWithin n us → IsCanonicalRow ring us
+    → IsCanonicalRow ring vs → IsCanonicalRow ring (paired_terms n us vs)
 IsCanonical-pair ring n us vs within h k =
     let shifted = IsCanonical-moved ring n vs k in
     record {
@@ -61,34 +70,45 @@ IsCanonical-pair ring n us vs within h k =
     }
 
 module _ (target source : List ℤ) (d : ℤ) where
-  first_degrees : (weights : Weights) (us : List (Term Place)) → IsHomogeneous weights target d us → IsHomogeneous weights (target ++ source) d us
+  first_degrees : (weights : Weights) (us : List (Term Place)) → IsHomogeneous weights target d us
+      → IsHomogeneous weights (target ++ source) d us
   first_degrees weights us h =
       AllByRecursion-weaken (IsTermOfDegree weights target d) (IsTermOfDegree weights (target ++ source) d)
       (λ t k. let within : t.at.position < length target = k.0 in (
         rw length-append (omega arith),
-        k.1 ∙ ap (λ e. e +ℤ pos (monomial_degree weights t.at.monomial)) (sym (get_or-append target source (pos 0) t.at.position within)),
+        k.1 ∙ ap (λ e. e +ℤ pos (monomial_degree weights t.at.monomial))
+            (sym (get_or-append target source (pos 0) t.at.position within)),
       ))
       us h
 
-  last_degrees : (weights : Weights) (vs : List (Term Place)) → IsHomogeneous weights source d vs → IsHomogeneous weights (target ++ source) d (moved (length target) vs)
+  last_degrees : (weights : Weights) (vs : List (Term Place)) → IsHomogeneous weights source d vs
+      → IsHomogeneous weights (target ++ source) d (moved (length target) vs)
   last_degrees weights [] h = tt
   last_degrees weights (v ∷ vs) h = (
     (
       let within : v.at.position < length source = h.0.0 in rw length-append (omega arith),
-      h.0.1 ∙ ap (λ e. e +ℤ pos (monomial_degree weights v.at.monomial)) (sym (get_or-append-add target source v.at.position (pos 0))),
+      h.0.1 ∙ ap (λ e. e +ℤ pos (monomial_degree weights v.at.monomial))
+          (sym (get_or-append-add target source v.at.position (pos 0))),
     ),
     last_degrees weights vs h.1,
   )
 
-  pub IsVector-pair : (ring : Ring) (us vs : List (Term Place)) → IsVector ring target (record { degree = d; terms = us }) → IsVector ring source (record { degree = d; terms = vs })
+  pub IsVector-pair : (ring : Ring) (us vs : List (Term Place))
+      → IsVector ring target (record { degree = d; terms = us })
+      → IsVector ring source (record { degree = d; terms = vs })
       → IsVector ring (target ++ source) (record { degree = d; terms = paired_terms (length target) us vs })
   IsVector-pair ring us vs h k = record {
-    canonical = IsCanonical-pair ring (length target) us vs (AllByRecursion-weaken _ _ (λ t e. e.0) us h.homogeneous) h.canonical k.canonical;
-    homogeneous = AllByRecursion-append _ us (moved (length target) vs) (first_degrees ring.weights us h.homogeneous) (last_degrees ring.weights vs k.homogeneous);
+    canonical =
+        IsCanonical-pair ring (length target) us vs
+        (AllByRecursion-weaken _ _ (λ t e. e.0) us h.homogeneous) h.canonical k.canonical;
+    homogeneous =
+        AllByRecursion-append _ us (moved (length target) vs) (first_degrees ring.weights us h.homogeneous)
+        (last_degrees ring.weights vs k.homogeneous);
   }
 
 -- each vector over both is a pair of its parts
-pub paired_terms-parts : (weights : Weights) (n k : ℕ) (ts : List (Term Place)) → IsDescending (place_cmp weights) ts → IsWithin (n + k) ts → paired_terms n (part_terms 0 n ts) (part_terms n (n + k) ts) ≡ ts
+pub paired_terms-parts : (weights : Weights) (n k : ℕ) (ts : List (Term Place)) → IsDescending (place_cmp weights) ts
+    → IsWithin (n + k) ts → paired_terms n (part_terms 0 n ts) (part_terms n (n + k) ts) ≡ ts
 paired_terms-parts weights n k [] h within = refl
 paired_terms-parts weights n k (t ∷ ts) h within =
     let inside : t.at.position < n + k = within.0 in

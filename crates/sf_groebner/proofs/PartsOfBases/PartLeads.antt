@@ -36,28 +36,35 @@ module _ (from to : ℕ) where
       ∙ ap (λ b. b && divides t.at.monomial u.at.monomial) (eqb-sub from t.at.position u.at.position h.0 reached)
 
   -- leads in the range compare as before
-  pub lead_cmp-part : (weights : Weights) (ts us : List (Term Place)) → HasLeadBetween from to ts → HasLeadBetween from to us → lead_cmp weights (part_terms from to ts) (part_terms from to us) ≡ lead_cmp weights ts us
+  pub lead_cmp-part : (weights : Weights) (ts us : List (Term Place)) → HasLeadBetween from to ts
+      → HasLeadBetween from to us
+      → lead_cmp weights (part_terms from to ts) (part_terms from to us) ≡ lead_cmp weights ts us
   lead_cmp-part weights [] us h k = absurd h
   lead_cmp-part weights (t ∷ ts) [] h k = absurd k
   lead_cmp-part weights (t ∷ ts) (u ∷ us) h k =
       (λ i. lead_cmp weights (part_terms-inside from to t ts h.0 h.1 i) (part_terms-inside from to u us k.0 k.1 i))
-      ∙ ap (λ o. ordering_then o (monomial_cmp weights t.at.monomial u.at.monomial)) (nat_cmp-sub from u.at.position t.at.position k.0 h.0)
+      ∙ ap (λ o. ordering_then o (monomial_cmp weights t.at.monomial u.at.monomial))
+      (nat_cmp-sub from u.at.position t.at.position k.0 h.0)
 
 -- where all terms stand at the positions from n on, there is none before
-pub part_terms-past : (n : ℕ) (ts : List (Term Place)) → AllByRecursion (λ t. n ≤ t.at.position) ts → part_terms 0 n ts ≡ []
+pub part_terms-past : (n : ℕ) (ts : List (Term Place)) → AllByRecursion (λ t. n ≤ t.at.position) ts
+    → part_terms 0 n ts ≡ []
 part_terms-past n [] h = refl
 part_terms-past n (t ∷ ts) h = part_terms-outside 0 n t ts (inr h.0) ∙ part_terms-past n ts h.1
 
 -- where all terms stand before `from`, there is none behind
-pub part_terms-before : (from to : ℕ) (ts : List (Term Place)) → AllByRecursion (λ t. t.at.position < from) ts → part_terms from to ts ≡ []
+pub part_terms-before : (from to : ℕ) (ts : List (Term Place)) → AllByRecursion (λ t. t.at.position < from) ts
+    → part_terms from to ts ≡ []
 part_terms-before from to [] h = refl
 part_terms-before from to (t ∷ ts) h = part_terms-outside from to t ts (inl h.0) ∙ part_terms-before from to ts h.1
 
 -- no term of a descending list stands before its lead
-pub later_positions : (weights : Weights) (n : ℕ) (t : Term Place) (ts : List (Term Place)) → IsDescending (place_cmp weights) (t ∷ ts) → n ≤ t.at.position → AllByRecursion (λ u. n ≤ u.at.position) (t ∷ ts)
+pub later_positions : (weights : Weights) (n : ℕ) (t : Term Place) (ts : List (Term Place))
+    → IsDescending (place_cmp weights) (t ∷ ts) → n ≤ t.at.position → AllByRecursion (λ u. n ≤ u.at.position) (t ∷ ts)
 later_positions weights n t ts h reached = (reached, weaken ts (IsDescending-positions weights t ts h))
   where
-    weaken : (us : List (Term Place)) → AllByRecursion (λ u. t.at.position ≤ u.at.position) us → AllByRecursion (λ u. n ≤ u.at.position) us
+    weaken : (us : List (Term Place)) → AllByRecursion (λ u. t.at.position ≤ u.at.position) us
+        → AllByRecursion (λ u. n ≤ u.at.position) us
     weaken [] k = tt
     weaken (u ∷ us) k = (let le : t.at.position ≤ u.at.position = k.0 in omega arith, weaken us k.1)
 
@@ -66,14 +73,18 @@ module _ (n : ℕ) (t : Term Place) (ts : List (Term Place)) where
   pub has_terms-first : t.at.position < n → has_terms (part_terms 0 n (t ∷ ts)) ≡ true
   has_terms-first within = ap has_terms (part_terms-inside 0 n t ts (omega arith) within)
 
-  pub has_terms-later : (weights : Weights) → IsDescending (place_cmp weights) (t ∷ ts) → n ≤ t.at.position → has_terms (part_terms 0 n (t ∷ ts)) ≡ false
-  has_terms-later weights h reached = ap has_terms (part_terms-past n (t ∷ ts) (later_positions weights n t ts h reached))
+  pub has_terms-later : (weights : Weights) → IsDescending (place_cmp weights) (t ∷ ts) → n ≤ t.at.position
+      → has_terms (part_terms 0 n (t ∷ ts)) ≡ false
+  has_terms-later weights h reached =
+      ap has_terms (part_terms-past n (t ∷ ts) (later_positions weights n t ts h reached))
 
-  pub has_terms-position : (weights : Weights) → IsDescending (place_cmp weights) (t ∷ ts) → has_terms (part_terms 0 n (t ∷ ts)) ≡ true → t.at.position < n
+  pub has_terms-position : (weights : Weights) → IsDescending (place_cmp weights) (t ∷ ts)
+      → has_terms (part_terms 0 n (t ∷ ts)) ≡ true → t.at.position < n
   has_terms-position weights h e =
       elim (cases_lt t.at.position n) [
         | inl within ↦ within
-        | inr reached ↦ let no = has_terms-later weights h reached in absurd (let clash : true ≡ false = sym e ∙ no in cc)
+        | inr reached ↦ let no =
+            has_terms-later weights h reached in absurd (let clash : true ≡ false = sym e ∙ no in cc)
       ]
 
   pub has_no_terms-position : has_terms (part_terms 0 n (t ∷ ts)) ≡ false → n ≤ t.at.position

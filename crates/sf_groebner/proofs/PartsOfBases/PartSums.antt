@@ -34,27 +34,36 @@ at_part-additive p from to g additive = record {
     zeros k false = zero-mod p
 
     sums : (k : Place) (m n : ℕ) (b : Bool)
-        → (if b then g (record { at = k; coefficient = sum_mod p m n }) else 0) % p ≡ sum_mod p (if b then g (record { at = k; coefficient = m }) else 0) (if b then g (record { at = k; coefficient = n }) else 0)
+        → (if b then g (record { at = k; coefficient = sum_mod p m n }) else 0) % p
+        ≡ sum_mod p (if b then g (record { at = k; coefficient = m }) else 0)
+        (if b then g (record { at = k; coefficient = n }) else 0)
     sums k m n true = additive.at_sum k m n
     sums k m n false = sym (sum_mod-zero p 0)
 
 -- a total over the terms in the range is one over the vector
-total-part_terms : (p from to : ℕ) (g : Term Place → ℕ) (ts : List (Term Place)) → total p g (part_terms from to ts) ≡ total p (at_part from to g) ts
+total-part_terms : (p from to : ℕ) (g : Term Place → ℕ) (ts : List (Term Place))
+    → total p g (part_terms from to ts) ≡ total p (at_part from to g) ts
 total-part_terms p from to g ts =
-    total-map p g (moved_back from) _ ∙ total-filter (λ (t : Term Place). nat_le from t.at.position && nat_lt t.at.position to) p (λ t. g (moved_back from t)) ts
+    total-map p g (moved_back from) _
+    ∙ total-filter (λ (t : Term Place). nat_le from t.at.position && nat_lt t.at.position to) p
+    (λ t. g (moved_back from t)) ts
 
 module _ (ring : Ring) (from to : ℕ) where
-  pub part_terms-add : IsRing ring → (us vs : List (Term Place)) → part_terms from to (row_sum ring us vs) ≡ row_sum ring (part_terms from to us) (part_terms from to vs)
+  pub part_terms-add : IsRing ring → (us vs : List (Term Place))
+      → part_terms from to (row_sum ring us vs) ≡ row_sum ring (part_terms from to us) (part_terms from to vs)
   part_terms-add positive us vs =
-      same_from_total (place_cmp ring.weights) (place_cmp_linear ring.weights) ring.modulus positive.modulus _ _ (IsCanonical-part_terms ring from to _ (IsCanonical-row_sum ring positive.modulus us vs))
+      same_from_total (place_cmp ring.weights) (place_cmp_linear ring.weights) ring.modulus positive.modulus _ _
+      (IsCanonical-part_terms ring from to _ (IsCanonical-row_sum ring positive.modulus us vs))
       (IsCanonical-row_sum ring positive.modulus (part_terms from to us) (part_terms from to vs))
       (λ g additive.
       total-part_terms ring.modulus from to g (row_sum ring us vs)
-      ∙ total-add (place_cmp ring.weights) (place_cmp_linear ring.weights) ring.modulus (at_part from to g) (at_part-additive ring.modulus from to g additive) us vs
+      ∙ total-add (place_cmp ring.weights) (place_cmp_linear ring.weights) ring.modulus (at_part from to g)
+      (at_part-additive ring.modulus from to g additive) us vs
       ∙ (λ i. sum_mod ring.modulus (sym (total-part_terms ring.modulus from to g us) i) (sym (total-part_terms ring.modulus from to g vs) i))
       ∙ sym (total-add (place_cmp ring.weights) (place_cmp_linear ring.weights) ring.modulus g additive (part_terms from to us) (part_terms from to vs)))
 
-  pub part_terms-negative : (us : List (Term Place)) → part_terms from to (negative ring.modulus us) ≡ negative ring.modulus (part_terms from to us)
+  pub part_terms-negative : (us : List (Term Place))
+      → part_terms from to (negative ring.modulus us) ≡ negative ring.modulus (part_terms from to us)
   part_terms-negative [] = refl
   part_terms-negative (u ∷ us) =
       elim (cases_between from to u.at.position) [
@@ -70,5 +79,8 @@ module _ (ring : Ring) (from to : ℕ) where
 
   -- the part of a difference
   pub part_terms-difference : IsRing ring → (us vs : List (Term Place))
-      → part_terms from to (row_sum ring us (negative ring.modulus vs)) ≡ row_sum ring (part_terms from to us) (negative ring.modulus (part_terms from to vs))
-  part_terms-difference positive us vs = part_terms-add positive us (negative ring.modulus vs) ∙ ap (row_sum ring (part_terms from to us)) (part_terms-negative vs)
+      → part_terms from to (row_sum ring us (negative ring.modulus vs))
+      ≡ row_sum ring (part_terms from to us) (negative ring.modulus (part_terms from to vs))
+  part_terms-difference positive us vs =
+      part_terms-add positive us (negative ring.modulus vs)
+      ∙ ap (row_sum ring (part_terms from to us)) (part_terms-negative vs)

@@ -25,21 +25,27 @@ use Rattle.sf_algebra.proofs.Vectors.UnitRows.{row_at-unit_rows}
 use Rattle.sf_groebner.proofs.PartsOfBases.PairedVectors.{paired_terms-parts}
 
 -- a sum whose terms stand in order is one list after the other
-pub add-canonical_append : (ring : Ring) → IsRing ring → (us vs : List (Term Place)) → IsCanonicalRow ring (us ++ vs) → row_sum ring us vs ≡ us ++ vs
+pub add-canonical_append : (ring : Ring) → IsRing ring → (us vs : List (Term Place)) → IsCanonicalRow ring (us ++ vs)
+    → row_sum ring us vs ≡ us ++ vs
 unfolding add
-add-canonical_append ring positive us vs h = normal-canonical (place_cmp ring.weights) (place_cmp_linear ring.weights) ring.modulus positive.modulus (us ++ vs) h
+add-canonical_append ring positive us vs h =
+    normal-canonical (place_cmp ring.weights) (place_cmp_linear ring.weights) ring.modulus positive.modulus (us ++ vs) h
 
 -- unit rows that begin at position n move coefficients by n
-pub row_combination-unit_rows_from : (ring : Ring) → IsRing ring → (n : ℕ) (ds : List ℤ) (c : List (Term Place)) → IsCanonicalRow ring c → IsWithin (length ds) c → row_combination ring (unit_rows n ds) c ≡ moved n c
+pub row_combination-unit_rows_from : (ring : Ring) → IsRing ring → (n : ℕ) (ds : List ℤ) (c : List (Term Place))
+    → IsCanonicalRow ring c → IsWithin (length ds) c → row_combination ring (unit_rows n ds) c ≡ moved n c
 row_combination-unit_rows_from ring positive n ds c canonical within =
-    combination-same (place_keys ring.weights) ring.modulus positive.modulus (λ k. k.monomial) (λ k. row_at (unit_rows n ds) k.position) c (moved n c) (IsCanonical-moved ring n c canonical)
+    combination-same (place_keys ring.weights) ring.modulus positive.modulus (λ k. k.monomial)
+    (λ k. row_at (unit_rows n ds) k.position) c (moved n c) (IsCanonical-moved ring n c canonical)
     (λ g additive.
-    total-each ring.modulus _ (λ t. g (record { at = record { position = n + t.at.position; monomial = t.at.monomial }; coefficient = t.coefficient })) c
+    total-each ring.modulus _
+    (λ t. g (record { at = record { position = n + t.at.position; monomial = t.at.monomial }; coefficient = t.coefficient })) c
     (AllByRecursion-weaken _ _ (λ t h. moves g additive t h) c within)
     ∙ sym (total-map ring.modulus g _ c))
   where
     moves : (g : Term Place → ℕ) → IsAdditive ring.modulus g → (t : Term Place) → t.at.position < length ds
-        → share place_product ring.modulus (λ k. k.monomial) (λ k. row_at (unit_rows n ds) k.position) g t % ring.modulus
+        → share place_product ring.modulus (λ k. k.monomial)
+        (λ k. row_at (unit_rows n ds) k.position) g t % ring.modulus
         ≡ g (record { at = record { position = n + t.at.position; monomial = t.at.monomial }; coefficient = t.coefficient }) % ring.modulus
     moves g additive t h =
         let part = λ (u : Term Place). g (term_product place_product ring.modulus (factor (λ k. k.monomial) t) u) in
@@ -58,7 +64,9 @@ row_combination-unit_rows_from ring positive n ds c canonical within =
         ∙ additive-reduced ring.modulus g additive place t.coefficient
 
 -- a vector is the sum of its terms at the first n positions and of those behind them
-pub add-parts : (ring : Ring) → IsRing ring → (n k : ℕ) (ts : List (Term Place)) → IsCanonicalRow ring ts → IsWithin (n + k) ts → row_sum ring (part_terms 0 n ts) (moved n (part_terms n (n + k) ts)) ≡ ts
+pub add-parts : (ring : Ring) → IsRing ring → (n k : ℕ) (ts : List (Term Place)) → IsCanonicalRow ring ts
+    → IsWithin (n + k) ts → row_sum ring (part_terms 0 n ts) (moved n (part_terms n (n + k) ts)) ≡ ts
 add-parts ring positive n k ts canonical within =
     let parts = paired_terms-parts ring.weights n k ts canonical.descending within in
-    add-canonical_append ring positive (part_terms 0 n ts) (moved n (part_terms n (n + k) ts)) (subst (IsCanonicalRow ring) (sym parts) canonical) ∙ parts
+    add-canonical_append ring positive (part_terms 0 n ts) (moved n (part_terms n (n + k) ts))
+    (subst (IsCanonicalRow ring) (sym parts) canonical) ∙ parts

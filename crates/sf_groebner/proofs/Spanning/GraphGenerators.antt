@@ -43,33 +43,41 @@ module _ (m : Matrix) (positive : IsRing m.ring) (above : 1 < m.ring.modulus) (m
 
   graph_rows-inside : AllByRecursion (IsGraphVector m) graph_rows
   graph_rows-inside =
-      AllByRecursion-map (IsGraphVector m) (λ (c : Vector). record { degree = c.degree; terms = graph_terms c.terms }) (unit_rows 0 (row_degrees m))
+      AllByRecursion-map (IsGraphVector m) (λ (c : Vector). record { degree = c.degree; terms = graph_terms c.terms })
+      (unit_rows 0 (row_degrees m))
       (AllByRecursion-weaken _ _ (λ c h. IsGraphVector-graph_of m positive c (IsVector-row_combination m positive.modulus matrix c h) h) (unit_rows 0 (row_degrees m)) (IsMatrix-identity m.ring above (row_degrees m)))
 
   degrees-graph_rows : degrees_of graph_rows ≡ row_degrees m
-  degrees-graph_rows = degrees-with_terms graph_terms (unit_rows 0 (row_degrees m)) ∙ degrees-unit_rows 0 (row_degrees m)
+  degrees-graph_rows =
+      degrees-with_terms graph_terms (unit_rows 0 (row_degrees m)) ∙ degrees-unit_rows 0 (row_degrees m)
 
   length-row_degrees : length (row_degrees m) ≡ length m.rows
   length-row_degrees = length-map m.rows (λ (v : Vector). v.degree)
 
-  row_at-graph_rows : (i : ℕ) → row_at graph_rows i ≡ row_sum m.ring (row_at m.rows i) (row_at (unit_rows (length m.target) (row_degrees m)) i)
+  row_at-graph_rows : (i : ℕ)
+      → row_at graph_rows i ≡ row_sum m.ring (row_at m.rows i) (row_at (unit_rows (length m.target) (row_degrees m)) i)
   row_at-graph_rows i =
-      row_at-map graph_terms (ap (λ us. us ++ []) (row_combination-nil m.ring positive.modulus m.rows)) (unit_rows 0 (row_degrees m)) i
+      row_at-map graph_terms (ap (λ us. us ++ []) (row_combination-nil m.ring positive.modulus m.rows))
+      (unit_rows 0 (row_degrees m)) i
       ∙ elim (cases_lt i (length m.rows)) [
         | inl within ↦
             let ring = m.ring in
             let n = length m.target in
-            let row = AllByRecursion-row_at (λ d ts. IsVector ring m.target (record { degree = d; terms = ts })) m.rows matrix i within in
+            let row =
+            AllByRecursion-row_at
+            (λ d ts. IsVector ring m.target (record { degree = d; terms = ts })) m.rows matrix i within in
             let inside : i < length (row_degrees m) = rw length-row_degrees within in
             let unit : List (Term Place) = unit_term i ∷ [] in
-            let unit_canonical : IsCanonicalRow ring unit = record { descending = (tt, tt); residues = ((omega arith, above), tt) } in
+            let unit_canonical : IsCanonicalRow ring unit =
+            record { descending = (tt, tt); residues = ((omega arith, above), tt) } in
             let pair = IsCanonical-pair ring n (row_at m.rows i) unit (AllByRecursion-weaken _ _ (λ t h. h.0) (row_at m.rows i) row.homogeneous) row.canonical unit_canonical in
             ap graph_terms (row_at-unit_rows (row_degrees m) 0 i inside ∙ ap (λ j. unit_term j ∷ []) (zero-add i))
             ∙ ap (λ us. us ++ moved n unit) (row_combination-unit ring positive.modulus m.rows i row.canonical)
             ∙ sym (add-canonical_append ring positive (row_at m.rows i) (moved n unit) pair)
             ∙ ap (row_sum ring (row_at m.rows i)) (sym (row_at-unit_rows (row_degrees m) n i inside))
         | inr past ↦
-            let none : (from : ℕ) → row_at (unit_rows from (row_degrees m)) i ≡ [] = λ from. row_at-past (unit_rows from (row_degrees m)) i (rw (length-unit_rows, length-row_degrees) past) in
+            let none : (from : ℕ) → row_at (unit_rows from (row_degrees m)) i ≡ [] =
+            λ from. row_at-past (unit_rows from (row_degrees m)) i (rw (length-unit_rows, length-row_degrees) past) in
             ap graph_terms (none 0)
             ∙ ap (λ us. us ++ []) (row_combination-nil m.ring positive.modulus m.rows)
             ∙ sym (row_sum-nil m.ring positive.modulus [] (record { descending = tt; residues = tt }))
@@ -84,18 +92,22 @@ module _ (m : Matrix) (positive : IsRing m.ring) (above : 1 < m.ring.modulus) (m
       let vector = graph_coefficients m w h in
       record {
         coefficients = c;
-        homogeneous = subst (λ ds. IsHomogeneous m.ring.weights ds w.degree c) (sym degrees-graph_rows) vector.homogeneous;
+        homogeneous =
+            subst (λ ds. IsHomogeneous m.ring.weights ds w.degree c) (sym degrees-graph_rows) vector.homogeneous;
         value =
-            row_combination-add_rows ring positive.modulus graph_rows m.rows (unit_rows n (row_degrees m)) row_at-graph_rows c
+            row_combination-add_rows ring positive.modulus graph_rows m.rows
+            (unit_rows n (row_degrees m)) row_at-graph_rows c
             ∙ (λ i. row_sum ring (sym h.value i) (row_combination-unit_rows_from ring positive n (row_degrees m) c vector.canonical (AllByRecursion-weaken _ _ (λ t k. k.0) c vector.homogeneous) i))
-            ∙ add-parts ring positive n (length m.rows) w.terms h.vector.canonical (subst (λ l. IsWithin l w.terms) (length-graph_degrees m) (AllByRecursion-weaken _ _ (λ t k. k.0) w.terms h.vector.homogeneous));
+            ∙ add-parts ring positive n (length m.rows) w.terms h.vector.canonical
+            (subst (λ l. IsWithin l w.terms) (length-graph_degrees m) (AllByRecursion-weaken _ _ (λ t k. k.0) w.terms h.vector.homogeneous));
       }
 
   pub graph_generators : AreGenerators m.ring (IsGraphVector m) graph_rows
   graph_generators = record { inside = graph_rows-inside; spans = graph_rows-spans }
 
   -- combinations of vectors of the graph are vectors of the graph
-  graph_combinations : (rows : List Vector) → AllByRecursion (IsGraphVector m) rows → (d : ℤ) (c : List (Term Place)) → IsHomogeneous m.ring.weights (degrees_of rows) d c
+  graph_combinations : (rows : List Vector) → AllByRecursion (IsGraphVector m) rows → (d : ℤ) (c : List (Term Place))
+      → IsHomogeneous m.ring.weights (degrees_of rows) d c
       → IsGraphVector m (record { degree = d; terms = row_combination m.ring rows c })
   graph_combinations rows inside d c h =
       let ring = m.ring in
@@ -105,7 +117,9 @@ module _ (m : Matrix) (positive : IsRing m.ring) (above : 1 < m.ring.modulus) (m
       record {
         vector = record {
           canonical = IsCanonical-row_combination ring positive.modulus rows c;
-          homogeneous = IsHomogeneous-row_combination (graph_degrees m) ring rows (AllByRecursion-weaken _ _ (λ w k. k.vector.homogeneous) rows inside) d c h;
+          homogeneous =
+              IsHomogeneous-row_combination (graph_degrees m) ring rows
+              (AllByRecursion-weaken _ _ (λ w k. k.vector.homogeneous) rows inside) d c h;
         };
         value =
             part_terms-row_combination ring positive.modulus 0 n rows c

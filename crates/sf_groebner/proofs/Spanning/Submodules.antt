@@ -26,7 +26,8 @@ use Rattle.sf_groebner.proofs.Uniqueness.Subtractions.{add-negative_front}
 -- with the combinations of vectors of the module
 pub record IsSubmodule (ring : Ring) (target : List ℤ) (N : Vector → Type 0) : Type 0 where
   pub module_like : IsModuleLike ring target N
-  pub combinations : (rows : List Vector) → AllByRecursion N rows → (d : ℤ) (c : List (Term Place)) → IsHomogeneous ring.weights (degrees_of rows) d c
+  pub combinations : (rows : List Vector) → AllByRecursion N rows → (d : ℤ) (c : List (Term Place))
+      → IsHomogeneous ring.weights (degrees_of rows) d c
       → N (record { degree = d; terms = row_combination ring rows c })
 
 -- a vector of the module whose lead has the coefficient 1 and stands at k
@@ -36,20 +37,25 @@ pub record HasMonicAt (N : Vector → Type 0) (k : Place) : Type 0 where
   pub tail : List (Term Place)
   pub terms : vector.terms ≡ record { at = k; coefficient = 1 } ∷ tail
 
-module _ (ring : Ring) (prime : IsOverField ring) (target : List ℤ) (N : Vector → Type 0) (submodule : IsSubmodule ring target N) where
+module _ (ring : Ring) (prime : IsOverField ring) (target : List ℤ) (N : Vector → Type 0)
+    (submodule : IsSubmodule ring target N) where
   -- the rest of a division by vectors of the module
-  pub rest-inside : (rows : List Vector) → AllByRecursion N rows → (v : Vector) → N v → (e : Division ring target rows v) → N (record { degree = v.degree; terms = e.rest })
+  pub rest-inside : (rows : List Vector) → AllByRecursion N rows → (v : Vector) → N v
+      → (e : Division ring target rows v) → N (record { degree = v.degree; terms = e.rest })
   rest-inside rows inside v h e =
       let multiples : Vector = record { degree = v.degree; terms = row_combination ring rows e.quotients } in
       let positive : IsRing ring = field_ring prime in
       let back : row_sum ring v.terms (negative ring.modulus multiples.terms) ≡ e.rest =
       ap (λ ts. row_sum ring ts (negative ring.modulus multiples.terms)) (sym e.sum)
-      ∙ add-negative_front (place_keys ring.weights) ring.modulus positive.modulus e.rest multiples.terms e.vector.canonical (IsCanonical-row_combination ring positive.modulus rows e.quotients) in
+      ∙ add-negative_front
+      (place_keys ring.weights) ring.modulus positive.modulus e.rest multiples.terms e.vector.canonical
+      (IsCanonical-row_combination ring positive.modulus rows e.quotients) in
       subst N (λ i. record { degree = v.degree; terms = back i })
       (submodule.module_like.differences v multiples h (submodule.combinations rows inside v.degree e.quotients e.homogeneous) refl)
 
   -- a nonzero vector, by the inverse of its first coefficient
-  pub monic_multiple : (d : ℤ) (t : Term Place) (ts : List (Term Place)) → N (record { degree = d; terms = t ∷ ts }) → HasMonicAt N t.at
+  pub monic_multiple : (d : ℤ) (t : Term Place) (ts : List (Term Place)) → N (record { degree = d; terms = t ∷ ts })
+      → HasMonicAt N t.at
   monic_multiple d t ts h =
       let v : Vector = record { degree = d; terms = t ∷ ts } in
       let vector = submodule.module_like.vectors v h in
@@ -59,13 +65,18 @@ module _ (ring : Ring) (prime : IsOverField ring) (target : List ℤ) (N : Vecto
       let c : Term Place = record { at = one_place; coefficient = inverse.0 } in
       let s : Term _ = record { at = one; coefficient = inverse.0 } in
       let first : term_product place_product ring.modulus s t ≡ record { at = t.at; coefficient = 1 } =
-      λ i. record { at = place_product-one t.at i; coefficient = (product_mod-comm ring.modulus inverse.0 t.coefficient ∙ inverse.2) i } in
+      λ i. record {
+        at =
+            place_product-one t.at i;
+        coefficient = (product_mod-comm ring.modulus inverse.0 t.coefficient ∙ inverse.2) i;
+      } in
       record {
         vector = record { degree = d; terms = row_combination ring (v ∷ []) (c ∷ []) };
         inside = submodule.combinations (v ∷ []) (h, tt) d (c ∷ []) ((omega arith, omega (arith, ints)), tt);
         tail = map (term_product place_product ring.modulus s) ts;
         terms =
             row_combination-one ring (field_ring prime).modulus (v ∷ []) c
-            ∙ multiple-map (place_keys ring.weights) ring.modulus s prime.prime (inverse_nonzero ring.modulus t.coefficient inverse.0 inverse.2, inverse.1) (t ∷ ts) vector.canonical
+            ∙ multiple-map (place_keys ring.weights) ring.modulus s prime.prime
+            (inverse_nonzero ring.modulus t.coefficient inverse.0 inverse.2, inverse.1) (t ∷ ts) vector.canonical
             ∙ ap (λ u. u ∷ map (term_product place_product ring.modulus s) ts) first;
       }

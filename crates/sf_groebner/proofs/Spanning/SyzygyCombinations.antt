@@ -20,11 +20,13 @@ use Rattle.sf_groebner.proofs.Spanning.Submodules.{IsSubmodule}
 
 module _ (m : Matrix) (positive : IsRing m.ring) where
   -- combinations of syzygies give 0
-  syzygies-zero : (rows : List Vector) → AllByRecursion (IsSyzygy m) rows → (c : List (Term Place)) → row_combination m.ring m.rows (row_combination m.ring rows c) ≡ []
+  syzygies-zero : (rows : List Vector) → AllByRecursion (IsSyzygy m) rows → (c : List (Term Place))
+      → row_combination m.ring m.rows (row_combination m.ring rows c) ≡ []
   syzygies-zero rows inside c =
       let ring = m.ring in
       sym (row_combination-matrix_product ring positive.modulus (matrix_of ring (row_degrees m) rows) m c refl)
-      ∙ ap (λ us. row_combination ring us c) (with_terms-each (row_combination ring m.rows) (λ _. []) rows (AllByRecursion-weaken _ _ (λ v k. k.zero) rows inside))
+      ∙ ap (λ us. row_combination ring us c)
+      (with_terms-each (row_combination ring m.rows) (λ _. []) rows (AllByRecursion-weaken _ _ (λ v k. k.zero) rows inside))
       ∙ (λ i. combination (place_cmp ring.weights) place_product ring.modulus (λ k. k.monomial) (λ (k : Place). row_at-map (λ _. []) refl rows k.position i) c)
       ∙ combination-no_rows (place_keys ring.weights) ring.modulus positive.modulus (λ k. k.monomial) c
 
@@ -34,7 +36,9 @@ module _ (m : Matrix) (positive : IsRing m.ring) where
     combinations = λ rows inside d c h. record {
       coefficients = record {
         canonical = IsCanonical-row_combination m.ring positive.modulus rows c;
-        homogeneous = IsHomogeneous-row_combination (row_degrees m) m.ring rows (AllByRecursion-weaken _ _ (λ v k. k.coefficients.homogeneous) rows inside) d c h;
+        homogeneous =
+            IsHomogeneous-row_combination (row_degrees m) m.ring rows
+            (AllByRecursion-weaken _ _ (λ v k. k.coefficients.homogeneous) rows inside) d c h;
       };
       zero = syzygies-zero rows inside c;
     };

@@ -23,25 +23,31 @@ use Rattle.sf_groebner.proofs.Spanning.SumsAndMultiples.{HasSumsAndMultiples}
 use Rattle.sf_groebner.proofs.Uniqueness.KeptGenerators.{IsSumAt-to, IsSumAt-from, HasSameSums, left_out, taken_in}
 use Rattle.sf_groebner.proofs.Uniqueness.Remainders.{IsReducedBy-none}
 
-module _ (ring : Ring) (prime : IsOverField ring) (target : List ℤ) (N : Vector → Type 0) (submodule : IsSubmodule ring target N) where
+module _ (ring : Ring) (prime : IsOverField ring) (target : List ℤ) (N : Vector → Type 0)
+    (submodule : IsSubmodule ring target N) where
   -- the rest of a division by the basis is 0
-  pub IsCombination-basis : (basis : List Vector) → IsReducedBasis ring.weights N basis → (v : Vector) → N v → IsCombination ring basis v
+  pub IsCombination-basis : (basis : List Vector) → IsReducedBasis ring.weights N basis → (v : Vector) → N v
+      → IsCombination ring basis v
   IsCombination-basis basis h v inside =
       let positive : IsRing ring = field_ring prime in
       let rows = AllByRecursion-both N (λ (w : Vector). IsMonic w.terms) (IsMonicVector ring target) (λ w a b. record { vector = submodule.module_like.vectors w a; monic = b }) basis h.inside h.monic in
-      let e : Division ring target basis v = divide ring prime target basis rows v (submodule.module_like.vectors v inside) in
+      let e : Division ring target basis v =
+      divide ring prime target basis rows v (submodule.module_like.vectors v inside) in
       let none : e.rest ≡ [] = IsReducedBy-none basis e.rest e.free (h.complete (record { degree = v.degree; terms = e.rest }) (rest-inside ring prime target N submodule basis h.inside v inside e)) in
       record {
         coefficients = e.quotients;
         homogeneous = e.homogeneous;
-        value = sym (row_sum-nil_first ring positive.modulus (row_combination ring basis e.quotients) (IsCanonical-row_combination ring positive.modulus basis e.quotients))
+        value =
+            sym (row_sum-nil_first ring positive.modulus (row_combination ring basis e.quotients) (IsCanonical-row_combination ring positive.modulus basis e.quotients))
             ∙ ap (λ ts. row_sum ring ts (row_combination ring basis e.quotients)) (sym none)
             ∙ e.sum;
       }
 
-module _ (ring : Ring) (positive : IsRing ring) (target : List ℤ) (B : Vector → Type 0) (closed : HasSumsAndMultiples ring B) where
+module _ (ring : Ring) (positive : IsRing ring) (target : List ℤ) (B : Vector → Type 0)
+    (closed : HasSumsAndMultiples ring B) where
   -- the kept vectors have with B the sums of all
-  HasSameSums-kept : (earlier before vs kept : List Vector) → HasSameSums ring target B positive closed earlier before → AreKept ring B earlier vs kept
+  HasSameSums-kept : (earlier before vs kept : List Vector) → HasSameSums ring target B positive closed earlier before
+      → AreKept ring B earlier vs kept
       → HasSameSums ring target B positive closed (earlier ++ vs) (before ++ kept)
   HasSameSums-kept earlier before [] kept h k =
       subst (λ ws. HasSameSums ring target B positive closed ws (before ++ kept)) (sym (append-nil earlier))
@@ -55,10 +61,13 @@ module _ (ring : Ring) (positive : IsRing ring) (target : List ℤ) (B : Vector 
       (subst (HasSameSums ring target B positive closed ((earlier ++ v ∷ []) ++ vs)) (append_assoc before (v ∷ []) k.1.0 ∙ ap (λ ws. before ++ ws) (sym k.1.1))
       (HasSameSums-kept (earlier ++ v ∷ []) (before ++ v ∷ []) vs k.1.0 (taken_in ring target B positive closed earlier before v h) k.1.2))
 
-  pub AreKept-sums : (vs kept : List Vector) → AreKept ring B [] vs kept → HasSameSums ring target B positive closed vs kept
+  pub AreKept-sums : (vs kept : List Vector) → AreKept ring B [] vs kept
+      → HasSameSums ring target B positive closed vs kept
   AreKept-sums vs kept h = HasSameSums-kept [] [] vs kept (record { to = λ d ts k. k; from = λ d ts k. k }) h
 
-module _ (ring : Ring) (prime : IsOverField ring) (target : List ℤ) (N B : Vector → Type 0) (submodule : IsSubmodule ring target N) (part : IsSubmodule ring target B) (generators : List Vector) (minimal : AreMinimal ring N B generators) where
+module _ (ring : Ring) (prime : IsOverField ring) (target : List ℤ) (N B : Vector → Type 0)
+    (submodule : IsSubmodule ring target N) (part : IsSubmodule ring target B) (generators : List Vector)
+    (minimal : AreMinimal ring N B generators) where
   -- each vector of N is the sum of one of B and a combination of the generators
   pub AreMinimal-generate : (v : Vector) → N v → IsInSum ring generators B v
   AreMinimal-generate v h =
@@ -74,7 +83,8 @@ module _ (ring : Ring) (prime : IsOverField ring) (target : List ℤ) (N B : Vec
         second_degree = refl;
         sum = row_sum-nil_first ring positive.modulus v.terms (submodule.module_like.vectors v h).canonical;
       } in
-      IsSumAt-to ring target B generators v ((AreKept-sums ring positive target B closed minimal.basis generators minimal.kept).to v.degree v.terms (IsSumAt-from ring target B minimal.basis v whole))
+      IsSumAt-to ring target B generators v
+      ((AreKept-sums ring positive target B closed minimal.basis generators minimal.kept).to v.degree v.terms (IsSumAt-from ring target B minimal.basis v whole))
 
   -- and only these are, where B is in N
   pub AreMinimal-inside : ((v : Vector) → B v → N v) → (v : Vector) → IsInSum ring generators B v → N v

@@ -25,18 +25,22 @@ use Rattle.sf_groebner.proofs.Uniqueness.UniqueBases.{unique_reduced}
 
 module _ (m : Matrix) (positive : IsRing m.ring) where
   -- coefficients of one vector differ by a syzygy
-  pub IsSyzygy-difference : (c d : Vector) → IsCoefficients m c → IsCoefficients m d → combined m c ≡ combined m d → IsSyzygy m (vector_difference m.ring c d)
+  pub IsSyzygy-difference : (c d : Vector) → IsCoefficients m c → IsCoefficients m d → combined m c ≡ combined m d
+      → IsSyzygy m (vector_difference m.ring c d)
   IsSyzygy-difference c d h k same = record {
     coefficients = IsVector-difference m.ring positive (row_degrees m) c d h k (ap (λ v. v.degree) same);
     zero = ap (λ v. v.terms) (combined-difference m positive c d k.canonical)
         ∙ ap (λ v. row_sum m.ring v.terms (negative m.ring.modulus (row_combination m.ring m.rows d.terms))) same
-        ∙ add-negative (place_keys m.ring.weights) m.ring.modulus positive.modulus (row_combination m.ring m.rows d.terms) (IsCanonical-row_combination m.ring positive.modulus m.rows d.terms);
+        ∙ add-negative (place_keys m.ring.weights) m.ring.modulus positive.modulus
+        (row_combination m.ring m.rows d.terms) (IsCanonical-row_combination m.ring positive.modulus m.rows d.terms);
   }
 
   pub unique_lift : (v c d : Vector) → IsLift m v c → IsLift m v d → c ≡ d
   unique_lift v c d h k =
       let value : combined m c ≡ combined m d = h.value ∙ sym k.value in
-      let bases : k.syzygies ≡ h.syzygies = unique_reduced m.ring positive (row_degrees m) (IsSyzygy m) (syzygy_module m positive) k.syzygies h.syzygies k.basis h.basis in
+      let bases : k.syzygies ≡ h.syzygies =
+      unique_reduced m.ring positive (row_degrees m) (IsSyzygy m)
+      (syzygy_module m positive) k.syzygies h.syzygies k.basis h.basis in
       let terms : c.terms ≡ d.terms =
       same_reduced m.ring positive h.syzygies c d h.coefficients.canonical k.coefficients.canonical
       (h.basis.complete (vector_difference m.ring c d) (IsSyzygy-difference c d h.coefficients k.coefficients value))
@@ -44,7 +48,8 @@ module _ (m : Matrix) (positive : IsRing m.ring) where
       λ i. record { degree = (value i).degree; terms = terms i }
 
 -- what is reduced by all syzygies has first coefficients that are reduced by the first blocks of syzygies
-pub reduced-first_block : (m : Matrix) (n : ℕ) (syzygies : List Vector) (c : Vector) → IsSyzygyBasis m syzygies → IsReducedBy syzygies c.terms
+pub reduced-first_block : (m : Matrix) (n : ℕ) (syzygies : List Vector) (c : Vector) → IsSyzygyBasis m syzygies
+    → IsReducedBy syzygies c.terms
     → IsReducedBy (first_parts n syzygies) (part_terms 0 n c.terms)
 reduced-first_block m n syzygies c h free =
     let cut = first_part m.ring (row_degrees m) (IsSyzygy m) (λ w k. k.coefficients) n in
@@ -53,13 +58,17 @@ reduced-first_block m n syzygies c h free =
     (AllByRecursion-from_items _ syzygies (λ w item e. AllByRecursion-weaken _ _ (λ t no. ap (λ b. b || false) no) c.terms (IsReducedBy-item syzygies w c.terms free item)))
 
 -- so by every reduced basis of these
-pub reduced-coordinates : (a b : Matrix) → IsRing a.ring → (v c : Vector) → IsLift (stacked a b) v c → (basis : List Vector) → IsReducedBasis a.ring.weights (IsFirstBlock a b) basis
+pub reduced-coordinates : (a b : Matrix) → IsRing a.ring → (v c : Vector) → IsLift (stacked a b) v c
+    → (basis : List Vector) → IsReducedBasis a.ring.weights (IsFirstBlock a b) basis
     → IsReducedBy basis (part_terms 0 (length a.rows) c.terms)
 reduced-coordinates a b positive v c h basis k =
     let m = stacked a b in
     let n = length a.rows in
     let module_like = syzygy_module m positive in
-    let blocks = first_part_module m.ring (row_degrees m) (IsSyzygy m) (λ w l. l.coefficients) n positive module_like.differences in
+    let blocks =
+    first_part_module m.ring (row_degrees m) (IsSyzygy m) (λ w l. l.coefficients) n positive module_like.differences in
     let first = reduced-first_parts m.ring (row_degrees m) (IsSyzygy m) (λ w l. l.coefficients) n h.syzygies h.basis in
-    let same : first_parts n h.syzygies ≡ basis = unique_reduced m.ring positive (slice_range (row_degrees m) 0 n) (IsFirstBlock a b) blocks (first_parts n h.syzygies) basis first k in
+    let same : first_parts n h.syzygies ≡ basis =
+    unique_reduced m.ring positive (slice_range (row_degrees m) 0 n) (IsFirstBlock a b) blocks
+    (first_parts n h.syzygies) basis first k in
     subst (λ l. IsReducedBy l (part_terms 0 n c.terms)) same (reduced-first_block m n h.syzygies c h.basis h.reduced)

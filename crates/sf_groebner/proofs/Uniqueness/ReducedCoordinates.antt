@@ -51,7 +51,8 @@ module _ (m : Matrix) (positive : IsRing m.ring) where
   pub InSpan-sum : (v : Vector) → IsInSum m.ring m.rows IsZero v → InSpan m v
   InSpan-sum v h =
       let canonical : IsCanonicalRow m.ring h.second.terms =
-      subst (λ (x : Vector). IsCanonicalRow m.ring x.terms) (h.in_span).value (IsCanonical-row_combination m.ring positive.modulus m.rows ((h.in_span).coefficients).terms) in
+      subst (λ (x : Vector). IsCanonicalRow m.ring x.terms) (h.in_span).value
+      (IsCanonical-row_combination m.ring positive.modulus m.rows ((h.in_span).coefficients).terms) in
       let terms : h.second.terms ≡ v.terms =
       sym (row_sum-nil_first m.ring positive.modulus h.second.terms canonical)
       ∙ ap (λ ts. row_sum m.ring ts h.second.terms) (sym h.in_module)
@@ -71,11 +72,14 @@ module _ (m : Matrix) (positive : IsRing m.ring) where
   }
 
 -- minimal generators modulo 0 span the module
-module _ (ring : Ring) (prime : IsOverField ring) (target : List ℤ) (N : Vector → Type 0) (submodule : IsSubmodule ring target N) (generators : List Vector) (minimal : AreMinimal ring N IsZero generators) where
+module _ (ring : Ring) (prime : IsOverField ring) (target : List ℤ) (N : Vector → Type 0)
+    (submodule : IsSubmodule ring target N) (generators : List Vector)
+    (minimal : AreMinimal ring N IsZero generators) where
   pub InSpan-minimal : (v : Vector) → N v → InSpan (matrix_of ring target generators) v
   InSpan-minimal v h =
       let positive : IsRing ring = field_ring prime in
-      InSpan-sum (matrix_of ring target generators) positive v (AreMinimal-generate ring prime target N IsZero submodule (zero_submodule ring positive target) generators minimal v h)
+      InSpan-sum (matrix_of ring target generators) positive v
+      (AreMinimal-generate ring prime target N IsZero submodule (zero_submodule ring positive target) generators minimal v h)
 
   pub InSpan-minimal_inside : (v : Vector) → InSpan (matrix_of ring target generators) v → N v
   InSpan-minimal_inside v h =
@@ -85,7 +89,8 @@ module _ (ring : Ring) (prime : IsOverField ring) (target : List ℤ) (N : Vecto
       v (IsInSum-span (matrix_of ring target generators) positive v h)
 
 -- a matrix of relations of generators modulo the span of base, minimal modulo 0
-module _ (generators base relations : Matrix) (prime : IsOverField generators.ring) (given : AreRelationsModulo generators base relations) where
+module _ (generators base relations : Matrix) (prime : IsOverField generators.ring)
+    (given : AreRelationsModulo generators base relations) where
   relations_positive : IsRing generators.ring
   relations_positive = field_ring prime
 
@@ -100,33 +105,43 @@ module _ (generators base relations : Matrix) (prime : IsOverField generators.ri
 
   pub InSpan-relations : (c : Vector) → IsRelation generators (InSpan base) c → InSpan relations c
   InSpan-relations c h =
-      subst (λ m. InSpan m c) as_rows (InSpan-minimal generators.ring prime (row_degrees generators) (IsRelation generators (InSpan base)) all_relations relations.rows given.minimal c h)
+      subst (λ m. InSpan m c) as_rows
+      (InSpan-minimal generators.ring prime (row_degrees generators) (IsRelation generators (InSpan base)) all_relations relations.rows given.minimal c h)
 
   pub IsRelation-span : (c : Vector) → InSpan relations c → IsRelation generators (InSpan base) c
   IsRelation-span c h =
-      InSpan-minimal_inside generators.ring prime (row_degrees generators) (IsRelation generators (InSpan base)) all_relations relations.rows given.minimal c (subst (λ m. InSpan m c) (sym as_rows) h)
+      InSpan-minimal_inside generators.ring prime (row_degrees generators)
+      (IsRelation generators (InSpan base)) all_relations relations.rows given.minimal c
+      (subst (λ m. InSpan m c) (sym as_rows) h)
 
   -- the first block of a lift is reduced by the relations
-  pub reduced_coordinates : (v c : Vector) → IsLift (stacked generators base) v c → IsReducedByRelations relations (vector_part 0 (length generators.rows) c)
+  pub reduced_coordinates : (v c : Vector) → IsLift (stacked generators base) v c
+      → IsReducedByRelations relations (vector_part 0 (length generators.rows) c)
   reduced_coordinates v c h =
       let m = stacked generators base in
       let n = length generators.rows in
-      let blocks = reduced-first_parts m.ring (row_degrees m) (IsSyzygy m) (λ w l. l.coefficients) n h.syzygies h.basis in
+      let blocks =
+      reduced-first_parts m.ring (row_degrees m) (IsSyzygy m) (λ w l. l.coefficients) n h.syzygies h.basis in
       record {
         basis = first_parts n h.syzygies;
         reduced_basis = IsReducedBasis-same relations.ring.weights (IsFirstBlock generators base) (InSpan relations)
             (λ w k. InSpan-relations w ((IsRelation-blocks generators base relations_positive given.base_ring w).1 k))
             (λ w k. (IsRelation-blocks generators base relations_positive given.base_ring w).0 (IsRelation-span w k))
-            (first_parts n h.syzygies) (subst (λ (q : Ring). IsReducedBasis q.weights (IsFirstBlock generators base) (first_parts n h.syzygies)) (sym given.ring) blocks);
+            (first_parts n h.syzygies)
+            (subst (λ (q : Ring). IsReducedBasis q.weights (IsFirstBlock generators base) (first_parts n h.syzygies)) (sym given.ring) blocks);
         reduced = reduced-first_block m n h.syzygies c h.basis h.reduced;
       }
 
 -- vectors that are reduced by relations and equal modulo their span are equal
-pub unique_reduced_vector : (m : Matrix) → IsRing m.ring → IsMatrix m → (v w : Vector) → IsVector m.ring m.target v → IsVector m.ring m.target w → v.degree ≡ w.degree
+pub unique_reduced_vector : (m : Matrix) → IsRing m.ring → IsMatrix m → (v w : Vector) → IsVector m.ring m.target v
+    → IsVector m.ring m.target w → v.degree ≡ w.degree
     → InSpan m (vector_difference m.ring v w) → IsReducedByRelations m v → IsReducedByRelations m w → v ≡ w
 unique_reduced_vector m positive matrix v w hv hw degree inside h k =
-    let bases : k.basis ≡ h.basis = unique_reduced m.ring positive m.target (InSpan m) (span_module m positive matrix) k.basis h.basis k.reduced_basis h.reduced_basis in
+    let bases : k.basis ≡ h.basis =
+    unique_reduced m.ring positive m.target (InSpan m)
+    (span_module m positive matrix) k.basis h.basis k.reduced_basis h.reduced_basis in
     let terms : v.terms ≡ w.terms =
-    same_reduced m.ring positive h.basis v w hv.canonical hw.canonical (h.reduced_basis.complete (vector_difference m.ring v w) inside) h.reduced
+    same_reduced m.ring positive h.basis v w hv.canonical hw.canonical
+    (h.reduced_basis.complete (vector_difference m.ring v w) inside) h.reduced
     (subst (λ basis. IsReducedBy basis w.terms) bases k.reduced) in
     λ i. record { degree = degree i; terms = terms i }

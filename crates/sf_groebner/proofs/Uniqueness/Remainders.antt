@@ -14,15 +14,18 @@ use Rattle.sf_groebner.specs.ReducedBases.{is_divided, HasDividedLead, IsReduced
 use Rattle.sf_groebner.proofs.Uniqueness.Differences.{add-negative_same}
 
 -- what is reduced and has a divided lead is 0
-pub IsReducedBy-none : (basis : List Vector) (ts : List (Term Place)) → IsReducedBy basis ts → HasDividedLead basis ts → ts ≡ []
+pub IsReducedBy-none : (basis : List Vector) (ts : List (Term Place)) → IsReducedBy basis ts → HasDividedLead basis ts
+    → ts ≡ []
 IsReducedBy-none basis [] free divided = refl
 IsReducedBy-none basis (t ∷ ts) free divided = absurd (clash (is_divided basis t.at) divided free.0)
   where
     clash : (b : Bool) → b ≡ true → b ≡ false → ⊥
     clash b h k = cc
 
-pub same_reduced : (ring : Ring) → IsRing ring → (basis : List Vector) (u v : Vector) → IsCanonicalRow ring u.terms → IsCanonicalRow ring v.terms
-    → HasDividedLead basis (vector_difference ring u v).terms → IsReducedBy basis u.terms → IsReducedBy basis v.terms → u.terms ≡ v.terms
+pub same_reduced : (ring : Ring) → IsRing ring → (basis : List Vector) (u v : Vector) → IsCanonicalRow ring u.terms
+    → IsCanonicalRow ring v.terms
+    → HasDividedLead basis (vector_difference ring u v).terms → IsReducedBy basis u.terms → IsReducedBy basis v.terms
+    → u.terms ≡ v.terms
 same_reduced ring positive basis u v h k divided free_u free_v =
     add-negative_same (place_keys ring.weights) ring.modulus positive.modulus u.terms v.terms h k
     (IsReducedBy-none basis (row_sum ring u.terms (negative ring.modulus v.terms))

@@ -11,12 +11,14 @@ use Rattle.sf_algebra.proofs.Monomials.Orders.{place_cmp_total}
 use Rattle.sf_groebner.specs.ReducedBases.{lead_cmp, row_cmp, IsSorted}
 use Rattle.sf_groebner.proofs.Basics.Items.{IsItem, AllByRecursion-item}
 
-ordering_reverse-then : (o p : Ordering) → ordering_then (ordering_reverse o) (ordering_reverse p) ≡ ordering_reverse (ordering_then o p)
+ordering_reverse-then : (o p : Ordering)
+    → ordering_then (ordering_reverse o) (ordering_reverse p) ≡ ordering_reverse (ordering_then o p)
 ordering_reverse-then Less p = refl
 ordering_reverse-then Equal p = refl
 ordering_reverse-then Greater p = refl
 
-lead_cmp-antisymm : (weights : Weights) (ts us : List (Term Place)) → lead_cmp weights ts us ≡ ordering_reverse (lead_cmp weights us ts)
+lead_cmp-antisymm : (weights : Weights) (ts us : List (Term Place))
+    → lead_cmp weights ts us ≡ ordering_reverse (lead_cmp weights us ts)
 lead_cmp-antisymm weights [] [] = refl
 lead_cmp-antisymm weights [] (u ∷ us) = refl
 lead_cmp-antisymm weights (t ∷ ts) [] = refl
@@ -31,7 +33,8 @@ row_cmp-antisymm weights v w =
 pub row_cmp-asymm : (weights : Weights) (v w : Vector) → row_cmp weights v w ≡ Less → row_cmp weights w v ≡ Less → ⊥
 row_cmp-asymm weights v w h k = let e = row_cmp-antisymm weights v w ∙ ap ordering_reverse k in cc
 
-pub same_sorted : (weights : Weights) (vs ws : List Vector) → IsSorted weights vs → IsSorted weights ws → ((v : Vector) → IsItem v vs → IsItem v ws) → ((w : Vector) → IsItem w ws → IsItem w vs) → vs ≡ ws
+pub same_sorted : (weights : Weights) (vs ws : List Vector) → IsSorted weights vs → IsSorted weights ws
+    → ((v : Vector) → IsItem v vs → IsItem v ws) → ((w : Vector) → IsItem w ws → IsItem w vs) → vs ≡ ws
 same_sorted weights [] [] h k to from = refl
 same_sorted weights [] (w ∷ ws) h k to from = absurd (from w (inl refl))
 same_sorted weights (v ∷ vs) [] h k to from = absurd (to v (inl refl))
@@ -46,7 +49,8 @@ same_sorted weights (v ∷ vs) (w ∷ ws) h k to from =
     heads : IsItem v (w ∷ ws) → IsItem w (v ∷ vs) → v ≡ w
     heads (inl same) there = same
     heads (inr item) (inl same) = sym same
-    heads (inr item) (inr other) = absurd (row_cmp-asymm weights w v (AllByRecursion-item _ ws v k.0 item) (AllByRecursion-item _ vs w h.0 other))
+    heads (inr item) (inr other) =
+        absurd (row_cmp-asymm weights w v (AllByRecursion-item _ ws v k.0 item) (AllByRecursion-item _ vs w h.0 other))
 
     -- what comes behind the first of one list isn't the first of the other
     behind : (x y z : Vector) (zs : List Vector) → row_cmp weights y x ≡ Less → y ≡ z → IsItem x (z ∷ zs) → IsItem x zs

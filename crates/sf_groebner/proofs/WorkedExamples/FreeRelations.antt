@@ -16,17 +16,21 @@ use Rattle.sf_groebner.proofs.PartsOfBases.GraphParts.{IsWithin-coefficients}
 use Rattle.sf_groebner.proofs.Spanning.SameModules.{IsReducedBasis-same}
 
 pub row_combination-no_rows : (ring : Ring) → IsRing ring → (c : List (Term Place)) → row_combination ring [] c ≡ []
-row_combination-no_rows ring positive c = combination-no_rows (place_keys ring.weights) ring.modulus positive.modulus (λ (k : Place). k.monomial) c
+row_combination-no_rows ring positive c =
+    combination-no_rows (place_keys ring.weights) ring.modulus positive.modulus (λ (k : Place). k.monomial) c
 
-pub span-no_rows : (ring : Ring) → IsRing ring → (target : List ℤ) (v : Vector) → InSpan (matrix_of ring target []) v → v.terms ≡ []
-span-no_rows ring positive target v h = sym (ap (λ (w : Vector). w.terms) h.value) ∙ row_combination-no_rows ring positive h.coefficients.terms
+pub span-no_rows : (ring : Ring) → IsRing ring → (target : List ℤ) (v : Vector) → InSpan (matrix_of ring target []) v
+    → v.terms ≡ []
+span-no_rows ring positive target v h =
+    sym (ap (λ (w : Vector). w.terms) h.value) ∙ row_combination-no_rows ring positive h.coefficients.terms
 
 no_lead : (ts : List (Term Place)) → IsWithin 0 ts → HasDividedLead [] ts
 no_lead [] h = tt
 no_lead (t ∷ ts) h = absurd (omega (arith, h.0))
 
 -- no rows have no relations
-pub reduced-no_rows : (ring : Ring) (target : List ℤ) (B : Vector → Type 0) → IsReducedBasis ring.weights (IsRelation (matrix_of ring target []) B) []
+pub reduced-no_rows : (ring : Ring) (target : List ℤ) (B : Vector → Type 0)
+    → IsReducedBasis ring.weights (IsRelation (matrix_of ring target []) B) []
 reduced-no_rows ring target B = record {
   inside = tt;
   monic = tt;
@@ -47,8 +51,14 @@ module _ (m : Matrix) (positive : IsRing m.ring) (target : List ℤ) where
   }
 
   syzygy_from_relation : (c : Vector) → IsRelation m (InSpan (matrix_of m.ring target [])) c → IsSyzygy m c
-  syzygy_from_relation c h = record { coefficients = h.coefficients; zero = span-no_rows m.ring positive target _ h.inside }
+  syzygy_from_relation c h = record {
+    coefficients = h.coefficients;
+    zero = span-no_rows m.ring positive target _ h.inside;
+  }
 
   -- relations modulo no rows are syzygies
-  pub reduced-free_relations : (basis : List Vector) → IsSyzygyBasis m basis → IsReducedBasis m.ring.weights (IsRelation m (InSpan (matrix_of m.ring target []))) basis
-  reduced-free_relations basis h = IsReducedBasis-same m.ring.weights (IsSyzygy m) (IsRelation m (InSpan (matrix_of m.ring target []))) relation_from_syzygy syzygy_from_relation basis h
+  pub reduced-free_relations : (basis : List Vector) → IsSyzygyBasis m basis
+      → IsReducedBasis m.ring.weights (IsRelation m (InSpan (matrix_of m.ring target []))) basis
+  reduced-free_relations basis h =
+      IsReducedBasis-same m.ring.weights (IsSyzygy m)
+      (IsRelation m (InSpan (matrix_of m.ring target []))) relation_from_syzygy syzygy_from_relation basis h

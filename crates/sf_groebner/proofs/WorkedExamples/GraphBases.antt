@@ -28,7 +28,8 @@ pub record IsGraphCandidate (m : Matrix) (rows more : List Vector) : Type 0 wher
   pub units : with_terms (coefficient_terms m) rows ≡ unit_rows 0 (row_degrees m)
   pub inside : AllByRecursion (IsGraphVector m) (rows ++ more)
   pub monic : AllByRecursion (IsMonicRow m.ring) (rows ++ more)
-  pub pairs : (i j : ℕ) → i < j → j < length (rows ++ more) → HaveLeadsAtOnePosition (rows ++ more) i j → ReducesToZero m.ring (rows ++ more) i j
+  pub pairs : (i j : ℕ) → i < j → j < length (rows ++ more) → HaveLeadsAtOnePosition (rows ++ more) i j
+      → ReducesToZero m.ring (rows ++ more) i j
   pub apart : IsApart (rows ++ more)
   pub sorted : IsSorted m.ring.weights (rows ++ more)
 
@@ -38,7 +39,8 @@ module _ (m : Matrix) (positive : IsRing m.ring) (rows more : List Vector) (h : 
   over_graph = record { ring = m.ring; target = graph_degrees m; rows = rows }
 
   IsMatrix-over_graph : IsMatrix over_graph
-  IsMatrix-over_graph = AllByRecursion-weaken _ _ (λ v k. k.vector) rows (AllByRecursion-front (IsGraphVector m) rows more h.inside)
+  IsMatrix-over_graph =
+      AllByRecursion-weaken _ _ (λ v k. k.vector) rows (AllByRecursion-front (IsGraphVector m) rows more h.inside)
 
   row_degrees-over_graph : row_degrees over_graph ≡ row_degrees m
   row_degrees-over_graph = sym (degrees-with_terms (value_terms m) rows) ∙ ap (map (λ (v : Vector). v.degree)) h.values
@@ -51,13 +53,18 @@ module _ (m : Matrix) (positive : IsRing m.ring) (rows more : List Vector) (h : 
     combination = row_combination m.ring rows own
 
     IsCoefficients-over_graph : IsCoefficients over_graph (record { degree = w.degree; terms = own })
-    IsCoefficients-over_graph = subst (λ ds. IsVector m.ring ds (record { degree = w.degree; terms = own })) (sym row_degrees-over_graph) (graph_coefficients m w of_graph)
+    IsCoefficients-over_graph =
+        subst (λ ds. IsVector m.ring ds (record { degree = w.degree; terms = own })) (sym row_degrees-over_graph)
+        (graph_coefficients m w of_graph)
 
     IsVector-combination : IsVector m.ring (graph_degrees m) (record { degree = w.degree; terms = combination })
-    IsVector-combination = IsVector-row_combination over_graph positive.modulus IsMatrix-over_graph (record { degree = w.degree; terms = own }) IsCoefficients-over_graph
+    IsVector-combination =
+        IsVector-row_combination over_graph positive.modulus IsMatrix-over_graph
+        (record { degree = w.degree; terms = own }) IsCoefficients-over_graph
 
     within : (v : Vector) → IsVector m.ring (graph_degrees m) v → IsWithin (length m.target + length m.rows) v.terms
-    within v k = subst (λ n. IsWithin n v.terms) (length-graph_degrees m) (IsWithin-IsVector m.ring (graph_degrees m) v k)
+    within v k =
+        subst (λ n. IsWithin n v.terms) (length-graph_degrees m) (IsWithin-IsVector m.ring (graph_degrees m) v k)
 
     value_terms-combination : value_terms m combination ≡ value_terms m w.terms
     value_terms-combination =
@@ -70,21 +77,24 @@ module _ (m : Matrix) (positive : IsRing m.ring) (rows more : List Vector) (h : 
         let of_rows = graph_coefficients m w of_graph in
         part_terms-row_combination m.ring positive.modulus (length m.target) (length m.target + length m.rows) rows own
         ∙ ap (λ vs. row_combination m.ring vs own) h.units
-        ∙ row_combination-unit_rows m.ring positive.modulus (row_degrees m) own of_rows.canonical (IsWithin-IsVector m.ring (row_degrees m) _ of_rows)
+        ∙ row_combination-unit_rows m.ring positive.modulus (row_degrees m) own of_rows.canonical
+        (IsWithin-IsVector m.ring (row_degrees m) _ of_rows)
 
     -- a vector of the graph is the combination of the first rows with its coefficients
     combination-graph : combination ≡ w.terms
     combination-graph =
         sym (paired_terms-parts m.ring.weights (length m.target) (length m.rows) combination IsVector-combination.canonical.descending (within _ IsVector-combination))
         ∙ (λ i. paired_terms (length m.target) (value_terms-combination i) (coefficient_terms-combination i))
-        ∙ paired_terms-parts m.ring.weights (length m.target) (length m.rows) w.terms of_graph.vector.canonical.descending (within w of_graph.vector)
+        ∙ paired_terms-parts m.ring.weights (length m.target)
+        (length m.rows) w.terms of_graph.vector.canonical.descending (within w of_graph.vector)
 
     for_rows : AllByRecursion (IsForRows rows) own
     for_rows = IsWithin-coefficients over_graph (record { degree = w.degree; terms = own }) IsCoefficients-over_graph
 
     HasDividedLead-graph : HasDividedLead (rows ++ more) w.terms
     HasDividedLead-graph =
-        subst (HasDividedLead (rows ++ more)) (row_combination-more_rows rows more m.ring positive own for_rows ∙ combination-graph)
+        subst (HasDividedLead (rows ++ more))
+        (row_combination-more_rows rows more m.ring positive own for_rows ∙ combination-graph)
         (buchberger m.ring positive (rows ++ more) h.monic h.pairs own
         (AllByRecursion-weaken _ _ (λ t k. length-more rows more t.at.position k) own for_rows))
 

@@ -35,7 +35,8 @@ unit_divides : (ts : List (Term Place)) → IsWithin 1 ts → HasDividedLead (un
 unit_divides [] h = tt
 unit_divides (t ∷ ts) h =
     let first : t.at.position < 1 = h.0 in
-    ap (λ d. d || false) ((Decides-place_divides (unit_term 0).at t.at).1 (omega (arith, first), (omega arith, omega arith, omega arith, omega arith, omega arith, omega arith)))
+    ap (λ d. d || false)
+    ((Decides-place_divides (unit_term 0).at t.at).1 (omega (arith, first), (omega arith, omega arith, omega arith, omega arith, omega arith, omega arith)))
 
 all_vectors : IsReducedBasis ones (IsAny (plain 101) (pos 0 ∷ [])) (unit_row ∷ [])
 all_vectors = record {
@@ -54,7 +55,8 @@ unit_needed : IsInSum (plain 101) [] (InSpan two_variables) unit_row → ⊥
 unit_needed h =
     no_unit h.first.terms (variables-span.complete h.first h.in_module)
     (sym (add-nil (place_cmp ones) (place_cmp_linear ones) 101 (omega arith) h.first.terms ((span_module two_variables (omega arith) variables-matrix).vectors h.first h.in_module).canonical)
-    ∙ ap (add (place_cmp ones) 101 h.first.terms) (sym (span-no_rows (plain 101) (omega arith) (pos 0 ∷ []) h.second h.in_span))
+    ∙ ap (add (place_cmp ones) 101 h.first.terms)
+    (sym (span-no_rows (plain 101) (omega arith) (pos 0 ∷ []) h.second h.in_span))
     ∙ h.sum)
 
 generators : AreMinimal (plain 101) (IsAny (plain 101) (pos 0 ∷ [])) (InSpan two_variables) (unit_row ∷ [])
@@ -64,18 +66,24 @@ generators = record { basis = unit_row ∷ []; reduced = all_vectors; kept = inr
 unit_combined : (c : Vector) → IsVector (plain 101) (pos 0 ∷ []) c → combined (identity (plain 101) (pos 0 ∷ [])) c ≡ c
 unit_combined c h = λ i. record { degree = c.degree; terms = row_combination-identity (plain 101) (omega arith) (pos 0 ∷ []) c h i }
 
-relation_from_span : (v : Vector) → InSpan two_variables v → IsRelation (identity (plain 101) (pos 0 ∷ [])) (InSpan two_variables) v
+relation_from_span : (v : Vector) → InSpan two_variables v
+    → IsRelation (identity (plain 101) (pos 0 ∷ [])) (InSpan two_variables) v
 relation_from_span v h =
     let vector = (span_module two_variables (omega arith) variables-matrix).vectors v h in
     record { coefficients = vector; inside = subst (InSpan two_variables) (sym (unit_combined v vector)) h }
 
-span_from_relation : (v : Vector) → IsRelation (identity (plain 101) (pos 0 ∷ [])) (InSpan two_variables) v → InSpan two_variables v
+span_from_relation : (v : Vector) → IsRelation (identity (plain 101) (pos 0 ∷ [])) (InSpan two_variables) v
+    → InSpan two_variables v
 span_from_relation v h = subst (InSpan two_variables) (unit_combined v h.coefficients) h.inside
 
-relations : AreMinimal (plain 101) (IsRelation (identity (plain 101) (pos 0 ∷ [])) (InSpan two_variables)) IsZero (x_row ∷ y_row ∷ [])
+relations : AreMinimal (plain 101) (IsRelation (identity (plain 101) (pos 0 ∷ [])) (InSpan two_variables)) IsZero
+    (x_row ∷ y_row ∷ [])
 relations = record {
   basis = x_row ∷ y_row ∷ [];
-  reduced = IsReducedBasis-same ones (InSpan two_variables) (IsRelation (identity (plain 101) (pos 0 ∷ [])) (InSpan two_variables)) relation_from_span span_from_relation (x_row ∷ y_row ∷ []) variables-span;
+  reduced =
+      IsReducedBasis-same ones (InSpan two_variables)
+      (IsRelation (identity (plain 101) (pos 0 ∷ [])) (InSpan two_variables)) relation_from_span span_from_relation
+      (x_row ∷ y_row ∷ []) variables-span;
   kept = variables-kept;
 }
 

@@ -54,7 +54,15 @@ pairs (suc zero) (suc (suc zero)) h k e = absurd (omega (arith, e))
 pairs i j h k e = absurd (omega arith)
 
 candidate : IsGraphCandidate two_variables graph_rows others
-candidate = record { values = refl; units = refl; inside = inside; monic = search arith; pairs = pairs; apart = search arith; sorted = search arith }
+candidate = record {
+  values = refl;
+  units = refl;
+  inside = inside;
+  monic = search arith;
+  pairs = pairs;
+  apart = search arith;
+  sorted = search arith;
+}
 
 reduced : IsReducedBasis ones (IsGraphVector two_variables) rows
 reduced = reduced_graph two_variables (omega arith) graph_rows others candidate
@@ -67,13 +75,18 @@ variables-syzygies = reduced-syzygies two_variables (omega arith) rows reduced
 
 -- no row is a sum of the earlier ones
 x_needed : IsInSum (plain 101) [] IsZero x_row → ⊥
-x_needed = not_in_sum (plain 101) (omega arith) (pos 0 ∷ []) [] tt (λ i j h k e. absurd (omega (arith, k))) x_row (λ e. cc)
+x_needed =
+    not_in_sum (plain 101) (omega arith) (pos 0 ∷ []) [] tt (λ i j h k e. absurd (omega (arith, k))) x_row (λ e. cc)
 
 y_needed : IsInSum (plain 101) (x_row ∷ []) IsZero y_row → ⊥
-y_needed = not_in_sum (plain 101) (omega arith) (pos 0 ∷ []) (x_row ∷ []) (search arith) (λ i j h k e. absurd (omega (arith, h, k))) y_row (λ e. cc)
+y_needed =
+    not_in_sum (plain 101) (omega arith) (pos 0 ∷ []) (x_row ∷ []) (search arith)
+    (λ i j h k e. absurd (omega (arith, h, k))) y_row (λ e. cc)
 
 pub koszul-needed : IsInSum (plain 101) [] IsZero koszul_row → ⊥
-koszul-needed = not_in_sum (plain 101) (omega arith) (pos 1 ∷ pos 1 ∷ []) [] tt (λ i j h k e. absurd (omega (arith, k))) koszul_row (λ e. cc)
+koszul-needed =
+    not_in_sum (plain 101) (omega arith) (pos 1 ∷ pos 1 ∷ []) [] tt (λ i j h k e. absurd (omega (arith, k))) koszul_row
+    (λ e. cc)
 
 pub variables-kept : AreKept (plain 101) IsZero [] (x_row ∷ y_row ∷ []) (x_row ∷ y_row ∷ [])
 variables-kept = inr (x_needed, (y_row ∷ [], refl, inr (y_needed, ([], refl, refl))))
@@ -82,7 +95,11 @@ variables-minimal : AreMinimal (plain 101) (InSpan two_variables) IsZero (x_row 
 variables-minimal = record { basis = x_row ∷ y_row ∷ []; reduced = variables-span; kept = variables-kept }
 
 koszul_minimal : AreMinimal (plain 101) (IsSyzygy two_variables) IsZero (koszul_row ∷ [])
-koszul_minimal = record { basis = koszul_row ∷ []; reduced = variables-syzygies; kept = inr (koszul-needed, ([], refl, refl)) }
+koszul_minimal = record {
+  basis = koszul_row ∷ [];
+  reduced = variables-syzygies;
+  kept = inr (koszul-needed, ([], refl, refl));
+}
 
 pub koszul-end : IsReducedBasis ones (IsSyzygy koszul) []
 koszul-end = no_syzygies (plain 101) (omega arith) (pos 1 ∷ pos 1 ∷ []) koszul_row (search arith)
@@ -99,5 +116,6 @@ koszul-resolution = (
 pub refuses_one_variable : RefusesOneVariable
 refuses_one_variable h =
     let same : x_row ∷ [] ≡ x_row ∷ y_row ∷ [] =
-    unique_minimal (plain 101) (pos 0 ∷ []) (InSpan two_variables) IsZero (unique_reduced (plain 101) (omega arith) (pos 0 ∷ []) (InSpan two_variables) (span_module two_variables (omega arith) variables-matrix)) (x_row ∷ []) (x_row ∷ y_row ∷ []) h variables-minimal in
+    unique_minimal (plain 101) (pos 0 ∷ []) (InSpan two_variables) IsZero
+    (unique_reduced (plain 101) (omega arith) (pos 0 ∷ []) (InSpan two_variables) (span_module two_variables (omega arith) variables-matrix)) (x_row ∷ []) (x_row ∷ y_row ∷ []) h variables-minimal in
     cc

@@ -34,20 +34,33 @@ monic = search arith
 -- y times the first row less x times the second: -y times the second and the third
 first_second : ReducesToZero (plain 101) quadrics_graph_basis 0 1
 unfolding combination combination_terms normal insert sum_mod product_mod negative_mod
-first_second = record { steps = term 100 1 (0 ∷ 1 ∷ []) ∷ term 1 2 [] ∷ []; below = ((omega arith, refl), ((omega arith, refl), tt)); value = refl }
+first_second = record {
+  steps = term 100 1 (0 ∷ 1 ∷ []) ∷ term 1 2 [] ∷ [];
+  below = ((omega arith, refl), ((omega arith, refl), tt));
+  value = refl;
+}
 
 -- y^3 times the first row less x^2 times the third: -x + y times the fourth
 first_third : ReducesToZero (plain 101) quadrics_graph_basis 0 2
 unfolding combination combination_terms normal insert sum_mod product_mod negative_mod
-first_third = record { steps = term 100 3 (1 ∷ []) ∷ term 1 3 (0 ∷ 1 ∷ []) ∷ []; below = ((omega arith, refl), ((omega arith, refl), tt)); value = refl }
+first_third = record {
+  steps = term 100 3 (1 ∷ []) ∷ term 1 3 (0 ∷ 1 ∷ []) ∷ [];
+  below = ((omega arith, refl), ((omega arith, refl), tt));
+  value = refl;
+}
 
 -- y^2 times the second row less x times the third: y times the third, less the fourth
 second_third : ReducesToZero (plain 101) quadrics_graph_basis 1 2
 unfolding combination combination_terms normal insert sum_mod product_mod negative_mod
-second_third = record { steps = term 1 2 (0 ∷ 1 ∷ []) ∷ term 100 3 [] ∷ []; below = ((omega arith, refl), ((omega arith, refl), tt)); value = refl }
+second_third = record {
+  steps = term 1 2 (0 ∷ 1 ∷ []) ∷ term 100 3 [] ∷ [];
+  below = ((omega arith, refl), ((omega arith, refl), tt));
+  value = refl;
+}
 
 -- the fourth row's lead stands at another position
-pairs : (i j : ℕ) → i < j → j < length quadrics_graph_basis → HaveLeadsAtOnePosition quadrics_graph_basis i j → ReducesToZero (plain 101) quadrics_graph_basis i j
+pairs : (i j : ℕ) → i < j → j < length quadrics_graph_basis → HaveLeadsAtOnePosition quadrics_graph_basis i j
+    → ReducesToZero (plain 101) quadrics_graph_basis i j
 pairs zero (suc zero) h k e = first_second
 pairs zero (suc (suc zero)) h k e = first_third
 pairs (suc zero) (suc (suc zero)) h k e = second_third
@@ -63,7 +76,15 @@ sorted : IsSorted ones quadrics_graph_basis
 sorted = assumption refl
 
 quadrics-graph : IsGraphCandidate quadrics quadrics_rows quadrics_others
-quadrics-graph = record { values = refl; units = refl; inside = inside; monic = monic; pairs = pairs; apart = apart; sorted = sorted }
+quadrics-graph = record {
+  values = refl;
+  units = refl;
+  inside = inside;
+  monic = monic;
+  pairs = pairs;
+  apart = apart;
+  sorted = sorted;
+}
 
 pub quadrics-reduced_graph : IsReducedBasis ones (IsGraphVector quadrics) quadrics_graph_basis
 quadrics-reduced_graph = reduced_graph quadrics (omega arith) quadrics_rows quadrics_others quadrics-graph

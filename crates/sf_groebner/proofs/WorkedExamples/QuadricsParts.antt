@@ -42,7 +42,8 @@ not_within h = absurd (omega (arith, h.low.1.1.0))
 pub quadrics-large : HasLargeQuadrics
 quadrics-large basis h =
     let same : basis ≡ quadrics_graph_basis =
-    unique_reduced (plain 101) (omega arith) (graph_degrees quadrics) (IsGraphVector quadrics) (graph_module quadrics (omega arith)) basis quadrics_graph_basis h.reduced quadrics-reduced_graph in
+    unique_reduced (plain 101) (omega arith) (graph_degrees quadrics) (IsGraphVector quadrics)
+    (graph_module quadrics (omega arith)) basis quadrics_graph_basis h.reduced quadrics-reduced_graph in
     not_within (subst (IsWithinLimit ones 2) same h.within)
 
 other-coefficients : IsCoefficients quadrics other_coefficients
@@ -59,7 +60,8 @@ refuses_other_coefficients = (
   refl,
   λ h.
       let same : h.syzygies ≡ quadrics_syzygy ∷ [] =
-      unique_reduced (plain 101) (omega arith) (row_degrees quadrics) (IsSyzygy quadrics) (syzygy_module quadrics (omega arith)) h.syzygies (quadrics_syzygy ∷ []) h.basis quadrics-syzygies in
+      unique_reduced (plain 101) (omega arith) (row_degrees quadrics) (IsSyzygy quadrics)
+      (syzygy_module quadrics (omega arith)) h.syzygies (quadrics_syzygy ∷ []) h.basis quadrics-syzygies in
       not_reduced (subst (λ vs. IsReducedBy vs other_coefficients.terms) same h.reduced),
 )
 

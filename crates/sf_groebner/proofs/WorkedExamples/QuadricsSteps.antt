@@ -15,18 +15,31 @@ use Rattle.sf_groebner.proofs.WorkedExamples.QuadricsGraph.{quadrics-matrix}
 use Rattle.sf_groebner.proofs.WorkedExamples.QuadricsParts.{quadrics-span, quadrics-syzygies}
 
 first_needed : IsInSum (plain 101) [] IsZero first_row → ⊥
-first_needed = not_in_sum (plain 101) (omega arith) (pos 0 ∷ []) [] tt (λ i j h k e. absurd (omega (arith, k))) first_row (λ e. cc)
+first_needed =
+    not_in_sum (plain 101) (omega arith) (pos 0 ∷ []) [] tt (λ i j h k e. absurd (omega (arith, k))) first_row (λ e. cc)
 
 second_needed : IsInSum (plain 101) (first_row ∷ []) IsZero second_row → ⊥
-second_needed = not_in_sum (plain 101) (omega arith) (pos 0 ∷ []) (first_row ∷ []) (search arith) (λ i j h k e. absurd (omega (arith, h, k))) second_row (λ e. cc)
+second_needed =
+    not_in_sum (plain 101) (omega arith) (pos 0 ∷ []) (first_row ∷ []) (search arith)
+    (λ i j h k e. absurd (omega (arith, h, k))) second_row (λ e. cc)
 
 -- y^3 is in the span of the rows before it
 third_left_out : IsInSum quadrics.ring quadrics.rows IsZero third_row
 unfolding add normal insert
-third_left_out = record { first = vector 3 []; second = third_row; in_module = refl; in_span = quadrics-span.inside.1.1.0; first_degree = refl; second_degree = refl; sum = refl }
+third_left_out = record {
+  first = vector 3 [];
+  second = third_row;
+  in_module = refl;
+  in_span = quadrics-span.inside.1.1.0;
+  first_degree = refl;
+  second_degree = refl;
+  sum = refl;
+}
 
 syzygy_needed : IsInSum (plain 101) [] IsZero quadrics_syzygy → ⊥
-syzygy_needed = not_in_sum (plain 101) (omega arith) (pos 2 ∷ pos 2 ∷ []) [] tt (λ i j h k e. absurd (omega (arith, k))) quadrics_syzygy (λ e. cc)
+syzygy_needed =
+    not_in_sum (plain 101) (omega arith) (pos 2 ∷ pos 2 ∷ []) [] tt
+    (λ i j h k e. absurd (omega (arith, k))) quadrics_syzygy (λ e. cc)
 
 quadrics_minimal : AreMinimal (plain 101) (InSpan quadrics) IsZero (first_row ∷ second_row ∷ [])
 quadrics_minimal = record {
@@ -36,10 +49,18 @@ quadrics_minimal = record {
 }
 
 syzygies_minimal : AreMinimal (plain 101) (IsSyzygy quadrics) IsZero (quadrics_syzygy ∷ [])
-syzygies_minimal = record { basis = quadrics_syzygy ∷ []; reduced = quadrics-syzygies; kept = inr (syzygy_needed, ([], refl, refl)) }
+syzygies_minimal = record {
+  basis = quadrics_syzygy ∷ [];
+  reduced = quadrics-syzygies;
+  kept = inr (syzygy_needed, ([], refl, refl));
+}
 
 end_minimal : AreMinimal (plain 101) (IsSyzygy quadrics_syzygies) IsZero []
-end_minimal = record { basis = []; reduced = no_syzygies (plain 101) (omega arith) (pos 2 ∷ pos 2 ∷ []) quadrics_syzygy (search arith); kept = refl }
+end_minimal = record {
+  basis = [];
+  reduced = no_syzygies (plain 101) (omega arith) (pos 2 ∷ pos 2 ∷ []) quadrics_syzygy (search arith);
+  kept = refl;
+}
 
 pub quadrics-resolution : HasQuadricsResolution
 quadrics-resolution = (
@@ -50,5 +71,6 @@ quadrics-resolution = (
 pub refuses_third_row : RefusesThirdRow
 refuses_third_row h =
     let same : first_row ∷ second_row ∷ third_row ∷ [] ≡ first_row ∷ second_row ∷ [] =
-    unique_minimal (plain 101) (pos 0 ∷ []) (InSpan quadrics) IsZero (unique_reduced (plain 101) (omega arith) (pos 0 ∷ []) (InSpan quadrics) (span_module quadrics (omega arith) quadrics-matrix)) (first_row ∷ second_row ∷ third_row ∷ []) (first_row ∷ second_row ∷ []) h quadrics_minimal in
+    unique_minimal (plain 101) (pos 0 ∷ []) (InSpan quadrics) IsZero
+    (unique_reduced (plain 101) (omega arith) (pos 0 ∷ []) (InSpan quadrics) (span_module quadrics (omega arith) quadrics-matrix)) (first_row ∷ second_row ∷ third_row ∷ []) (first_row ∷ second_row ∷ []) h quadrics_minimal in
     cc

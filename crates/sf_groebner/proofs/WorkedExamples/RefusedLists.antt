@@ -30,11 +30,13 @@ third : InSpan quadrics third_row
 third = quadrics-span.inside.1.1.0
 
 -- leads among those of other rows
-HasDividedLead-from : (vs ws : List Vector) → ((k : Place) → IsTrue (is_divided vs k) → IsTrue (is_divided ws k)) → (ts : List (Term Place)) → HasDividedLead vs ts → HasDividedLead ws ts
+HasDividedLead-from : (vs ws : List Vector) → ((k : Place) → IsTrue (is_divided vs k) → IsTrue (is_divided ws k))
+    → (ts : List (Term Place)) → HasDividedLead vs ts → HasDividedLead ws ts
 HasDividedLead-from vs ws f [] h = tt
 HasDividedLead-from vs ws f (t ∷ ts) h = f t.at h
 
-complete_from : (ws : List Vector) → ((k : Place) → IsTrue (is_divided quadrics_basis k) → IsTrue (is_divided ws k)) → HasCompleteLeads ws
+complete_from : (ws : List Vector) → ((k : Place) → IsTrue (is_divided quadrics_basis k) → IsTrue (is_divided ws k))
+    → HasCompleteLeads ws
 complete_from ws f v h = HasDividedLead-from quadrics_basis ws f v.terms (quadrics-span.complete v h)
 
 pub refuses_later_lead_in_tail : RefusesLaterLeadInTail
@@ -61,24 +63,28 @@ refuses_earlier_lead_in_tail = (
 not_inside : InSpan quadrics (vector 2 (term 1 0 (0 ∷ 2 ∷ []) ∷ [])) → ⊥
 not_inside h = let e = quadrics-span.complete (vector 2 (term 1 0 (0 ∷ 2 ∷ []) ∷ [])) h in cc
 
-or_last : (a b c d : Bool) → (IsTrue c → IsTrue d) → IsTrue (a || (b || (c || false))) → IsTrue (a || (b || (d || false)))
+or_last : (a b c d : Bool) → (IsTrue c → IsTrue d) → IsTrue (a || (b || (c || false)))
+    → IsTrue (a || (b || (d || false)))
 or_last true b c d f h = refl
 or_last false true c d f h = refl
 or_last false false true d f h = ap (λ e. e || false) (f refl)
 or_last false false false d f h = cc
 
 -- y^2 divides what y^3 divides
-square_divides : (k : Place) → IsTrue (place_divides (term 1 0 (0 ∷ 3 ∷ [])).at k) → IsTrue (place_divides (term 1 0 (0 ∷ 2 ∷ [])).at k)
+square_divides : (k : Place) → IsTrue (place_divides (term 1 0 (0 ∷ 3 ∷ [])).at k)
+    → IsTrue (place_divides (term 1 0 (0 ∷ 2 ∷ [])).at k)
 square_divides k h =
     let square = (term 1 0 (0 ∷ 2 ∷ [])).at in
     let cube = (term 1 0 (0 ∷ 3 ∷ [])).at in
-    (Decides-place_divides square k).1 (PlaceDivides-trans square cube k ((Decides-place_divides square cube).0 refl) ((Decides-place_divides cube k).0 h))
+    (Decides-place_divides square k).1
+    (PlaceDivides-trans square cube k ((Decides-place_divides square cube).0 refl) ((Decides-place_divides cube k).0 h))
 
 pub refuses_outside_rows : RefusesOutsideRows
 refuses_outside_rows = (
   λ h. not_inside h.inside.1.1.0,
   (refl, (refl, (refl, tt))),
-  complete_from outside_rows (λ k h. or_last (lead_divides first_row.terms k) (lead_divides second_row.terms k) _ _ (square_divides k) h),
+  complete_from outside_rows
+      (λ k h. or_last (lead_divides first_row.terms k) (lead_divides second_row.terms k) _ _ (square_divides k) h),
   search arith,
   ((refl, (refl, tt)), ((refl, tt), (tt, tt))),
 )
@@ -129,7 +135,8 @@ refuses_smaller_lead_first = (
   λ h. let e = h.sorted.0.0 in cc,
   (second, (first, (third, tt))),
   (refl, (refl, (refl, tt))),
-  complete_from smaller_lead_first (λ k h. first_two_exchanged (lead_divides first_row.terms k) (lead_divides second_row.terms k) (lead_divides third_row.terms k) h),
+  complete_from smaller_lead_first
+      (λ k h. first_two_exchanged (lead_divides first_row.terms k) (lead_divides second_row.terms k) (lead_divides third_row.terms k) h),
   search arith,
 )
 
@@ -138,6 +145,7 @@ refuses_greater_degree_first = (
   λ h. let e = h.sorted.0.0 in cc,
   (third, (first, (second, tt))),
   (refl, (refl, (refl, tt))),
-  complete_from greater_degree_first (λ k h. last_first (lead_divides first_row.terms k) (lead_divides second_row.terms k) (lead_divides third_row.terms k) h),
+  complete_from greater_degree_first
+      (λ k h. last_first (lead_divides first_row.terms k) (lead_divides second_row.terms k) (lead_divides third_row.terms k) h),
   search arith,
 )

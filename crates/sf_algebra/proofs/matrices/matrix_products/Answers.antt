@@ -12,7 +12,8 @@ pub returns : goal.returns
 returns c = record {
   matrices = λ a b composable h k. (IsMatrix-matrix_product a b composable h k, row_degrees-matrix_product a b);
   entries = λ a b positive i j.
-      ap (entry j) (row_at-matrix_product a.ring positive a b i refl) ∙ entry-row_combination_products a.ring positive b.rows (row_at a.rows i) j;
+      ap (entry j) (row_at-matrix_product a.ring positive a b i refl)
+      ∙ entry-row_combination_products a.ring positive b.rows (row_at a.rows i) j;
   identities = λ ring above degrees. (IsMatrix-identity ring above degrees, row_degrees-identity ring degrees);
   first_identity = matrix_product-identity_first;
   second_identity = matrix_product-identity;

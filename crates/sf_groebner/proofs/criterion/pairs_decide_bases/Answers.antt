@@ -11,11 +11,14 @@ before i j n h k = omega arith
 pub returns : goal.returns
 returns c = record {
   criterion = λ ring positive rows monic. (
-    λ complete i j pair. ReducesToZero-complete ring positive rows monic complete i j (before i j _ pair.earlier pair.later) pair.later pair.positions,
-    λ pairs. buchberger ring positive rows monic (λ i j earlier later positions. pairs i j (record { earlier = earlier; later = later; positions = positions })),
+    λ complete i j pair. ReducesToZero-complete ring positive rows monic complete i j
+        (before i j _ pair.earlier pair.later) pair.later pair.positions,
+    λ pairs. buchberger ring positive rows monic
+        (λ i j earlier later positions. pairs i j (record { earlier = earlier; later = later; positions = positions })),
   );
   up_to_degree = λ m positive is_matrix monic d pairs.
-      buchberger_up_to m is_matrix monic positive d (λ i j earlier later positions bound. pairs i j (record { earlier = earlier; later = later; positions = positions }) bound);
+      buchberger_up_to m is_matrix monic positive d
+      (λ i j earlier later positions bound. pairs i j (record { earlier = earlier; later = later; positions = positions }) bound);
   leads = λ ring positive rows monic i j pair. s_vector-below ring positive rows monic i j (before i j _ pair.earlier pair.later) pair.later pair.positions;
   either_order = ReducesToZero-sym;
   chains = ReducesToZero-chain;

@@ -13,5 +13,6 @@ returns c = record {
     λ found. ReducesToZero-IsPairSyzygy m.ring positive m.rows i j found.0.terms found.2,
   );
   span = λ m positive monic zs syzygies pairs.
-      schreyer_homogeneous m positive monic zs syzygies (λ i j earlier later positions. pairs i j (record { earlier = earlier; later = later; positions = positions }));
+      schreyer_homogeneous m positive monic zs syzygies
+      (λ i j earlier later positions. pairs i j (record { earlier = earlier; later = later; positions = positions }));
 }

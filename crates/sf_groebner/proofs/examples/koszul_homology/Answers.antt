@@ -3,4 +3,9 @@ use Rattle.sf_groebner.proofs.WorkedExamples.KoszulHomology.{koszul-homology, ko
 use Rattle.sf_groebner.proofs.examples.koszul_homology.Goals as goal
 
 pub returns : goal.returns
-returns c = record { middle = koszul-homology; kernel = koszul-kernel; cokernel = koszul-cokernel; not_zero = refuses_no_cokernel }
+returns c = record {
+  middle = koszul-homology;
+  kernel = koszul-kernel;
+  cokernel = koszul-cokernel;
+  not_zero = refuses_no_cokernel;
+}

@@ -2,4 +2,9 @@ use Rattle.sf_groebner.proofs.Constructions.Rests.{division_exists, reduced_vect
 use Rattle.sf_groebner.proofs.existence.each_vector_has_one_rest.Goals as goal
 
 pub returns : goal.returns
-returns c = record { exists = division_exists; unique = rest_unique; inside = rest_none; reduced = reduced_vector_exists }
+returns c = record {
+  exists = division_exists;
+  unique = rest_unique;
+  inside = rest_none;
+  reduced = reduced_vector_exists;
+}

@@ -14,7 +14,8 @@ pub returns : goal.returns
 returns c = record {
   span = λ m base positive matrix. unique_minimal m.ring m.target (InSpan m) (InSpan base) (one_span_basis m.ring positive m (λ i. m.ring) matrix);
   relations = λ m base positive rings matrix.
-      unique_minimal m.ring (row_degrees m) (IsRelation m (InSpan base)) IsZero (one_cycle_basis m.ring positive m base (λ i. m.ring) (sym rings) matrix);
+      unique_minimal m.ring (row_degrees m) (IsRelation m (InSpan base)) IsZero
+      (one_cycle_basis m.ring positive m base (λ i. m.ring) (sym rings) matrix);
   generate = λ m base prime rings targets matrix other.
       let positive : IsRing m.ring = field_ring prime in
       AreMinimal-generate m.ring prime m.target (InSpan m) (InSpan base) (span_submodule m positive matrix)

@@ -27,5 +27,7 @@ loop-factor-preserved c =
 
 pub returns-clause-combination : goal.returns-clause-combination
 returns-clause-combination c =
-    let sum = combination-gathered (place_cmp ones) place_product c.args.modulus _ _ c.args.c.now _ _ c.loop-factor-test.false c.loop-factor.invariant in
+    let sum =
+    combination-gathered
+    (place_cmp ones) place_product c.args.modulus _ _ c.args.c.now _ _ c.loop-factor-test.false c.loop-factor.invariant in
     subst (λ l. IfOk c.sum_of_gathered.result (λ v. v.items ≡ l)) sum c.sum_of_gathered.ensures.sum

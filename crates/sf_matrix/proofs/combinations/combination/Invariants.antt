@@ -4,4 +4,6 @@ use Rattle.sf_algebra.specs.Multiples.{place_product, combination_terms}
 use Rattle.sf_matrix.proofs.combinations.combination.Given as goal
 
 abbrev pub invariant-loop-factor : goal.invariant-loop-factor
-invariant-loop-factor l = l.products.items ≡ combination_terms place_product l.modulus (λ k. k.monomial) (λ k. row_at l.rows k.position) (take l.factor-index l.c)
+invariant-loop-factor l =
+    l.products.items ≡ combination_terms place_product l.modulus (λ k. k.monomial) (λ k. row_at l.rows k.position)
+    (take l.factor-index l.c)

@@ -14,14 +14,19 @@ pub returns-then-are_canonical-clause-sum : goal.returns-then-are_canonical-clau
 returns-then-are_canonical-clause-sum t c =
     let positive : 0 < c.args.modulus = omega (arith, c.value-p.ensures.above_one, c.value-p.ensures.same) in
     let canonical : IsCanonical (place_cmp ones) c.args.modulus c.args.terms.now = search rules in
-    rw (c.in_ok-extend_from_slice.ensures.items, c.in_ok-sum.ensures.items) (sym (normal-canonical (place_cmp ones) (place_cmp_linear ones) c.args.modulus positive c.args.terms.now canonical))
+    rw (c.in_ok-extend_from_slice.ensures.items, c.in_ok-sum.ensures.items)
+    (sym (normal-canonical (place_cmp ones) (place_cmp_linear ones) c.args.modulus positive c.args.terms.now canonical))
 
 pub returns-in-empty : goal.returns-in-empty
 returns-in-empty t c =
     let none : length c.args.terms.now ≡ 0 = omega arith in
     let positive : 0 < c.args.modulus = omega (arith, c.value-p.ensures.above_one, c.value-p.ensures.same) in
     let sum = c.new.ensures.items ∙ sym (normal-nil (place_cmp ones) c.args.modulus) ∙ ap (normal (place_cmp ones) c.args.modulus) (sym (nil_from_length c.args.terms.now none)) in
-    record { sum = sum; canonical = rw sum (IsCanonical-normal (place_cmp ones) (place_cmp_linear ones) c.args.modulus positive c.args.terms.now) }
+    record {
+      sum = sum;
+      canonical = rw sum
+          (IsCanonical-normal (place_cmp ones) (place_cmp_linear ones) c.args.modulus positive c.args.terms.now);
+    }
 
 pub returns-in_ok-push_nonzero-in-len1 : goal.returns-in_ok-push_nonzero-in-len1
 returns-in_ok-push_nonzero-in-len1 t c =
@@ -32,12 +37,24 @@ returns-in_ok-push_nonzero-in-len1 t c =
     ∙ (λ i. c.in_ok-sum-in-len1.ensures.items i ++ put (c.t.view_is i).at ((c.t.view_is i).coefficient % c.value-p.ensures.same i) [])
     ∙ sym (normal-one (place_cmp ones) c.args.modulus c.t-item.result)
     ∙ ap (normal (place_cmp ones) c.args.modulus) (sym (only_item c.args.terms.now c.t-item.result one c.t-item.is)) in
-    record { sum = sum; canonical = rw sum (IsCanonical-normal (place_cmp ones) (place_cmp_linear ones) c.args.modulus positive c.args.terms.now) }
+    record {
+      sum = sum;
+      canonical = rw sum
+          (IsCanonical-normal (place_cmp ones) (place_cmp_linear ones) c.args.modulus positive c.args.terms.now);
+    }
 
 pub returns-in_ok-back-in_default : goal.returns-in_ok-back-in_default
 returns-in_ok-back-in_default t c =
     let positive : 0 < c.args.modulus = omega (arith, c.value-p.ensures.above_one, c.value-p.ensures.same) in
-    let front = c.deref.ensures.value ∙ c.in_ok-front-in_default.ensures.sum ∙ ap (normal (place_cmp ones) c.args.modulus) c.split_at.ensures.front in
-    let back = c.deref-in_default.ensures.value ∙ c.in_ok-back-in_default.ensures.sum ∙ ap (normal (place_cmp ones) c.args.modulus) c.split_at.ensures.back in
+    let front =
+    c.deref.ensures.value ∙ c.in_ok-front-in_default.ensures.sum
+    ∙ ap (normal (place_cmp ones) c.args.modulus) c.split_at.ensures.front in
+    let back =
+    c.deref-in_default.ensures.value ∙ c.in_ok-back-in_default.ensures.sum
+    ∙ ap (normal (place_cmp ones) c.args.modulus) c.split_at.ensures.back in
     let halves = (λ i. add (place_cmp ones) c.args.modulus (front i) (back i)) ∙ sym (normal-halves (place_cmp ones) (place_cmp_linear ones) c.args.modulus positive (length c.args.terms.now / 2) c.args.terms.now) in
-    record { sum = subst (λ l. IfOk c.add_terms.result (λ v. v.items ≡ l)) halves c.add_terms.ensures.sum; canonical = c.add_terms.ensures.canonical }
+    record {
+      sum = subst
+          (λ l. IfOk c.add_terms.result (λ v. v.items ≡ l)) halves c.add_terms.ensures.sum;
+      canonical = c.add_terms.ensures.canonical;
+    }

@@ -6,4 +6,5 @@ use Rattle.sf_algebra.proofs.Terms.Sums.{normal-canonical}
 use Rattle.sf_matrix.proofs.sums.sum_of_gathered.Goals as goal
 
 pub returns-then-are_canonical-clause-sum : goal.returns-then-are_canonical-clause-sum
-returns-then-are_canonical-clause-sum c = sym (normal-canonical (place_cmp ones) (place_cmp_linear ones) c.args.modulus c.facts.ensures.positive _ (search rules))
+returns-then-are_canonical-clause-sum c =
+    sym (normal-canonical (place_cmp ones) (place_cmp_linear ones) c.args.modulus c.facts.ensures.positive _ (search rules))

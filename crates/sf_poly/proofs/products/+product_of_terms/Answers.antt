@@ -14,7 +14,8 @@ returns-in-empty-clause-product t c =
     let none : length c.args.left.now ≡ 0 = omega arith in
     c.new.ensures.items
     ∙ sym (polynomial_product-nil (plain c.args.modulus) c.args.right.now)
-    ∙ ap (λ l. polynomial_product (plain c.args.modulus) l c.args.right.now) (sym (nil_from_length c.args.left.now none))
+    ∙ ap (λ l. polynomial_product (plain c.args.modulus) l c.args.right.now)
+    (sym (nil_from_length c.args.left.now none))
 
 pub returns-in-len1-clause-product : goal.returns-in-len1-clause-product
 returns-in-len1-clause-product t c =
@@ -22,7 +23,8 @@ returns-in-len1-clause-product t c =
     let positive = positive_from_residues c.args.modulus c.args.left.now (omega arith) c.requires.left in
     let product =
     sym (polynomial_product-one_term (plain c.args.modulus) positive c.t-item.result c.args.right.now)
-    ∙ ap (λ l. polynomial_product (plain c.args.modulus) l c.args.right.now) (sym (only_item c.args.left.now c.t-item.result one c.t-item.is)) in
+    ∙ ap (λ l. polynomial_product (plain c.args.modulus) l c.args.right.now)
+    (sym (only_item c.args.left.now c.t-item.result one c.t-item.is)) in
     subst (λ l. IfOk c.multiple_of_terms.result (λ v. v.items ≡ l)) product c.multiple_of_terms.ensures.multiple
 
 pub returns-in_ok-back-in_default-clause-product : goal.returns-in_ok-back-in_default-clause-product

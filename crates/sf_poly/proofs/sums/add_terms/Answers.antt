@@ -42,4 +42,9 @@ returns c =
     c.in_ok-extend_from_slice-2.ensures.items
     ∙ ap (λ l. l ++ c.loop-left.right.now) c.in_ok-extend_from_slice.ensures.items
     ∙ IsMerging-end (monomial_cmp ones) (monomial_cmp_linear ones) _ _ _ _ _ c.loop-left.invariant over in
-    record { sum = sum; canonical = rw sum (canonical_sum (monomial_cmp ones) (monomial_cmp_linear ones) c.args.modulus _ _ c.requires.left c.requires.right) }
+    record {
+      sum = sum;
+      canonical = rw sum
+          (canonical_sum (monomial_cmp ones)
+          (monomial_cmp_linear ones) c.args.modulus _ _ c.requires.left c.requires.right);
+    }

@@ -6,7 +6,9 @@ use Rattle.sf_algebra.proofs.Terms.Merge.{IsMerging}
 use Rattle.sf_poly.proofs.sums.add_terms.Given as goal
 
 abbrev pub invariant-loop-left : goal.invariant-loop-left
-invariant-loop-left l = IsMerging (monomial_cmp ones) l.modulus l.sum.items l.left l.right (add (monomial_cmp ones) l.modulus l.fn.left l.fn.right)
+invariant-loop-left l =
+    IsMerging (monomial_cmp ones) l.modulus l.sum.items l.left l.right
+    (add (monomial_cmp ones) l.modulus l.fn.left l.fn.right)
 
 abbrev pub decreases-loop-left : goal.decreases-loop-left
 decreases-loop-left l = length l.left + length l.right

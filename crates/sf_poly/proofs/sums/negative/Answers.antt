@@ -9,5 +9,8 @@ use Rattle.sf_poly.proofs.sums.negative.Goals as goal
 
 pub returns-clause-canonical : goal.returns-clause-canonical
 returns-clause-canonical c =
-    let whole = c.loop-term.invariant ∙ ap (map (negative_term c.args.modulus)) (take_all _ c.args.terms.now c.loop-term-test.false) in
-    subst (IsCanonical (monomial_cmp ones) c.args.modulus) (sym whole) (IsCanonical-negative (monomial_cmp ones) c.args.modulus c.args.terms.now c.requires)
+    let whole =
+    c.loop-term.invariant
+    ∙ ap (map (negative_term c.args.modulus)) (take_all _ c.args.terms.now c.loop-term-test.false) in
+    subst (IsCanonical (monomial_cmp ones) c.args.modulus) (sym whole)
+    (IsCanonical-negative (monomial_cmp ones) c.args.modulus c.args.terms.now c.requires)

@@ -5,7 +5,8 @@ use Rattle.sf_session.specs.State.{start}
 use Rattle.sf_session.proofs.execution.run.Goals as goal
 
 -- a source that stays as it was gave nothing
-gives_nothing : {S : Type 0} (left : S → Option (List ℕ)) (given : S → ℕ) (old new : S) → new ≡ old → Gives left given old new []
+gives_nothing : {S : Type 0} (left : S → Option (List ℕ)) (given : S → ℕ) (old new : S) → new ≡ old
+    → Gives left given old new []
 gives_nothing left given old new kept = rw kept (record {
   next = Consumes-nil (left old);
   counted = record { least = omega arith; most = omega arith; exact = λ _. omega arith };

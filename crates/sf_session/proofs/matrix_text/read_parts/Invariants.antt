@@ -6,7 +6,8 @@ use Rattle.sf_session.proofs.matrix_text.read_parts.Given as goal
 
 abbrev pub invariant-loop-left : goal.invariant-loop-left
 invariant-loop-left g l =
-    option_map (λ others. l.items ++ others) (all_of g.W.Written.written (parts_left l.separator (option_copied l.left)))
+    option_map (λ others. l.items ++ others)
+    (all_of g.W.Written.written (parts_left l.separator (option_copied l.left)))
     ≡ all_of g.W.Written.written (parts l.separator l.initial.text)
 
 abbrev pub decreases-loop-left : goal.decreases-loop-left

@@ -12,4 +12,5 @@ loop-rest-preserved c =
 
 pub returns-clause-nonzero : goal.returns-clause-nonzero
 returns-clause-nonzero c =
-    inverse_nonzero c.value-p.result c.args.a c.loop-rest.factor (c.loop-rest.invariant.product ∙ c.loop-rest-test.false)
+    inverse_nonzero c.value-p.result c.args.a c.loop-rest.factor
+    (c.loop-rest.invariant.product ∙ c.loop-rest-test.false)

@@ -10,7 +10,9 @@ use Rattle.sf_matrix.proofs.matrix.Matrix.negate.Goals as goal
 pub invariant_of-result : goal.invariant_of-result
 invariant_of-result c =
     let m = c.args.self.now in
-    let whole = subst (λ vs. length vs ≤ c.loop-row.row-index) (c.deref-row-items.ensures.value ∙ ap (λ n. n.rows) c.self.view_is) c.loop-row-test.false in
+    let whole =
+    subst (λ vs. length vs ≤ c.loop-row.row-index)
+    (c.deref-row-items.ensures.value ∙ ap (λ n. n.rows) c.self.view_is) c.loop-row-test.false in
     IsMatrix-assembled (negated m) (IsMatrix-negated m (subst IsMatrix c.self.view_is c.self.invariant)) _ _ _
     (ap (λ n. n.ring) c.self.view_is)
     (ap (λ f. f.degrees) c.in_ok-copy.ensures.equal ∙ ap (λ n. n.target) c.self.view_is)

@@ -4,4 +4,6 @@ use Rattle.sf_algebra.specs.Vectors.{Vector}
 use Rattle.sf_matrix.proofs.matrix.Matrix.negate.Given as goal
 
 abbrev pub invariant-loop-row : goal.invariant-loop-row
-invariant-loop-row l = l.rows.items ≡ map (λ (v : Vector). record { degree = v.degree; terms = negative l.self.ring.modulus v.terms }) (take l.row-index l.self.rows)
+invariant-loop-row l =
+    l.rows.items ≡ map (λ (v : Vector). record { degree = v.degree; terms = negative l.self.ring.modulus v.terms })
+    (take l.row-index l.self.rows)

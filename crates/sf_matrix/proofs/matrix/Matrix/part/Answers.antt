@@ -14,7 +14,8 @@ invariant_of-result c =
     let c1 = c.args.c1 in
     let rows = c.deref.ensures.value ∙ ap (λ k. k.rows) c.self.view_is in
     let degrees = c.as_slice.ensures.items ∙ ap (λ k. k.target) c.self.view_is in
-    IsMatrix-assembled (part r0 r1 c0 c1 m) (IsMatrix-part r0 r1 c0 c1 m (subst IsMatrix c.self.view_is c.self.invariant)) _ _ _
+    IsMatrix-assembled (part r0 r1 c0 c1 m)
+    (IsMatrix-part r0 r1 c0 c1 m (subst IsMatrix c.self.view_is c.self.invariant)) _ _ _
     (ap (λ k. k.ring) c.self.view_is)
     (c.in_ok-degrees.ensures.items ∙ ap (λ ds. slice_range ds c0 c1) degrees)
     (c.in_ok-rows.ensures ∙ ap (λ vs. map (vector_part c0 c1) (slice_range vs r0 r1)) rows)

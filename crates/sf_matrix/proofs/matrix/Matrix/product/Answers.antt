@@ -22,11 +22,15 @@ combination-requires-clause-room c =
     let rows = c.deref-row-items.ensures.value ∙ ap (λ k. k.rows) c.self.view_is in
     let next = c.deref-in-loop-row.ensures.value ∙ ap (λ k. k.rows) c.next.view_is in
     let terms = c.deref.ensures.value ∙ ap (λ v. v.terms) c.row.view_is in
-    let read = subst (λ vs. slice_get vs c.loop-row.row-index ≡ Some c.row-item.result) rows (slice_get_read _ _ _ _ refl c.loop-row-test.true c.row-item.is) in
+    let read =
+    subst (λ vs. slice_get vs c.loop-row.row-index ≡ Some c.row-item.result) rows
+    (slice_get_read _ _ _ _ refl c.loop-row-test.true c.row-item.is) in
     let row = AllByRecursion-get (IsVector m.ring m.target) m.rows c.loop-row.row-index c.row-item.result (subst IsMatrix c.self.view_is c.self.invariant) read in
-    let bound = AllByRecursion-get (λ (v : Vector). DegreeFits n.target v.degree) m.rows c.loop-row.row-index c.row-item.result c.requires.room read in
+    let bound =
+    AllByRecursion-get (λ (v : Vector). DegreeFits n.target v.degree) m.rows c.loop-row.row-index c.row-item.result c.requires.room read in
     let fits = CombinationFits-matrices m n (subst (λ k. IsPositive k.ring.weights) c.self.view_is ones_positive) c.requires.ring c.requires.meet (subst IsMatrix c.next.view_is c.next.invariant) c.row-item.result row bound in
-    subst (λ vs. CombinationFits (row_at vs) c.deref.result.now) (sym next) (subst (CombinationFits (row_at n.rows)) (sym terms) fits)
+    subst (λ vs. CombinationFits (row_at vs) c.deref.result.now) (sym next)
+    (subst (CombinationFits (row_at n.rows)) (sym terms) fits)
 
 pub combination-requires-clause-residues : goal.combination-requires-clause-residues
 combination-requires-clause-residues c =
@@ -40,7 +44,9 @@ pub invariant_of-result : goal.invariant_of-result
 invariant_of-result c =
     let m = c.args.self.now in
     let n = c.args.next.now in
-    let whole = subst (λ vs. length vs ≤ c.loop-row.row-index) (c.deref-row-items.ensures.value ∙ ap (λ k. k.rows) c.self.view_is) c.loop-row-test.false in
+    let whole =
+    subst (λ vs. length vs ≤ c.loop-row.row-index)
+    (c.deref-row-items.ensures.value ∙ ap (λ k. k.rows) c.self.view_is) c.loop-row-test.false in
     let matrix = IsMatrix-matrix_product m n (record { positive = subst (λ p. 0 < p) (ap (λ k. k.ring.modulus) c.self.view_is) c.facts.ensures.positive; rings = sym c.requires.ring; degrees = c.requires.meet }) (subst IsMatrix c.self.view_is c.self.invariant) (subst IsMatrix c.next.view_is c.next.invariant) in
     IsMatrix-assembled (matrix_product m n) matrix _ _ _
     (ap (λ k. k.ring) c.self.view_is)
@@ -56,8 +62,14 @@ loop-row-preserved c =
     let terms : c.in_ok-terms.terms.items ≡ row_combination m.ring n.rows c.row-item.result.terms =
     c.in_ok-terms.ensures.combination ∙ (λ l. row_combination (c.self.view_is l).ring (next l) (coefficients l)) in
     let rows = c.deref-row-items.ensures.value ∙ ap (λ k. k.rows) c.self.view_is in
-    let read = subst (λ vs. slice_get vs c.loop-row.row-index ≡ Some c.row-item.result) rows (slice_get_read _ _ _ _ refl c.loop-row-test.true c.row-item.is) in
-    let pushed : c.push.new.self.items ≡ c.loop-row.rows.items ++ record { degree = c.row.inside.degree; terms = c.in_ok-terms.terms.items } ∷ [] = search rules in
+    let read =
+    subst (λ vs. slice_get vs c.loop-row.row-index ≡ Some c.row-item.result) rows
+    (slice_get_read _ _ _ _ refl c.loop-row-test.true c.row-item.is) in
+    let pushed : c.push.new.self.items ≡ c.loop-row.rows.items ++ record {
+      degree =
+          c.row.inside.degree;
+      terms = c.in_ok-terms.terms.items;
+    } ∷ [] = search rules in
     pushed
     ∙ (λ l. c.loop-row.invariant l ++ record { degree = (c.row.view_is l).degree; terms = terms l } ∷ [])
     ∙ sym (map-take (λ (v : Vector). record { degree = v.degree; terms = row_combination m.ring n.rows v.terms }) m.rows c.loop-row.row-index c.row-item.result read)

@@ -27,7 +27,12 @@ rows_of-requires-clause-nonzero c =
     subst (AllByRecursion (AllByRecursion (λ (t : Term Place). 0 < t.coefficient))) (sym columns) (nonzero-column_lists m.ring m.target m.rows (subst IsMatrix c.self.view_is c.self.invariant) 0 c.as_slice-degrees.result.now)
 
 -- what the program puts together
-whole : (c : goal.In_ok-negative_degrees) → record { ring = plain c.self.inside.modulus; target = c.in_ok-negative_degrees.field-0; rows = c.in_ok-rows.rows.items } ≡ transposed c.args.self.now
+whole : (c : goal.In_ok-negative_degrees)
+    → record {
+      ring = plain c.self.inside.modulus;
+      target = c.in_ok-negative_degrees.field-0;
+      rows = c.in_ok-rows.rows.items;
+    } ≡ transposed c.args.self.now
 whole c =
     let m = c.args.self.now in
     let rows = c.deref.ensures.value ∙ ap (λ n. n.rows) c.self.view_is in
@@ -38,7 +43,9 @@ whole c =
     transposed-parts m _ _ _ _ (ap (λ n. n.ring) c.self.view_is) target columns vectors
 
 pub invariant_of-result : goal.invariant_of-result
-invariant_of-result c = subst IsMatrix (sym (whole c)) (IsMatrix-transposed c.args.self.now (subst IsMatrix c.self.view_is c.self.invariant))
+invariant_of-result c =
+    subst IsMatrix (sym (whole c))
+    (IsMatrix-transposed c.args.self.now (subst IsMatrix c.self.view_is c.self.invariant))
 
 pub returns : goal.returns
 returns c = record { transposed = whole c }

@@ -15,4 +15,5 @@ invariant_of-result c =
     let terms = c.in_ok-terms.ensures ∙ ap (part_terms from to) c.deref.ensures.value in
     let descending = IsDescending-part_terms ones from to ts c.row.invariant.0 in
     let nonzero = AllByRecursion-part_terms (λ (t : Term Place). 0 < t.coefficient) (λ (t : Term Place). 0 < t.coefficient) from to (λ t a b h. h) ts c.row.invariant.1 in
-    subst (λ us. IsDescending (place_cmp ones) us × AllByRecursion (λ (t : Term Place). 0 < t.coefficient) us) (sym terms) (descending, nonzero)
+    subst (λ us. IsDescending (place_cmp ones) us × AllByRecursion (λ (t : Term Place). 0 < t.coefficient) us)
+    (sym terms) (descending, nonzero)

@@ -25,7 +25,9 @@ loop-term-preserved c =
     let here : c.term-item.result.at.position ≡ 0 + c.term.inside.position = omega (arith, place) in
     let below : c.term.inside.position < length c.args.columns.now.items = omega (arith, inside, place) in
     let pushed = entered-push c.args.i _ c.term-item.result 0 c.args.columns.now.items c.term.inside.position c.index_mut.result.now here below (c.index_mut.ensures.value ∙ ap (λ cs. get_or cs c.term.inside.position c.index_mut.result.now) c.loop-term.invariant) in
-    ap (λ ts. slice_set c.loop-term.columns.items c.term.inside.position ts) (c.in_ok-push.ensures.ok ∙ (λ l. c.index_mut.result.now ++ in_row c.args.i (c.term.view_is l) ∷ []))
+    ap (λ ts. slice_set c.loop-term.columns.items c.term.inside.position ts)
+    (c.in_ok-push.ensures.ok ∙ (λ l. c.index_mut.result.now ++ in_row c.args.i (c.term.view_is l) ∷ []))
     ∙ ap (λ cs. slice_set cs c.term.inside.position (c.index_mut.result.now ++ in_row c.args.i c.term-item.result ∷ [])) c.loop-term.invariant
     ∙ sym pushed
-    ∙ ap (λ ts. entered c.args.i ts 0 c.args.columns.now.items) (sym (take-slice_get c.args.terms.now c.loop-term.term-index c.term-item.result read))
+    ∙ ap (λ ts. entered c.args.i ts 0 c.args.columns.now.items)
+    (sym (take-slice_get c.args.terms.now c.loop-term.term-index c.term-item.result read))

@@ -9,5 +9,9 @@ loop-j-preserved c =
     let step = IsTurning-next c.args.degrees.now c.args.columns.items c.loop-j.rows.items c.loop-j.columns.items c.loop-j.j c.loop-j.invariant c.requires.length c.loop-j-test.true d column c.replace-column.new.dest (search rules) c.index_mut.ensures.value in
     let terms = c.into_vec.ensures.items ∙ c.replace-column.ensures.value in
     let degree : to_z w32 (of_z w32 c.negative_degree.result) ≡ neg_ℤ d = search rules in
-    let pushed : c.push.new.self.items ≡ c.loop-j.rows.items ++ record { degree = neg_ℤ d; terms = column } ∷ [] = c.in_ok-push.ensures.items ∙ (λ l. c.loop-j.rows.items ++ record { degree = degree l; terms = terms l } ∷ []) in
+    let pushed : c.push.new.self.items ≡ c.loop-j.rows.items ++ record {
+      degree =
+          neg_ℤ d;
+      terms = column;
+    } ∷ [] = c.in_ok-push.ensures.items ∙ (λ l. c.loop-j.rows.items ++ record { degree = degree l; terms = terms l } ∷ []) in
     subst (λ rows. IsTurning c.args.degrees.now c.args.columns.items rows (slice_set c.loop-j.columns.items c.loop-j.j c.replace-column.new.dest) (c.loop-j.j + 1)) (sym pushed) step

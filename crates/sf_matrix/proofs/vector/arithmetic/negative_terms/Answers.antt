@@ -9,5 +9,7 @@ use Rattle.sf_matrix.proofs.vector.arithmetic.negative_terms.Goals as goal
 
 pub returns-clause-canonical : goal.returns-clause-canonical
 returns-clause-canonical c =
-    let all = mapped_all (negative_term c.args.modulus) c.args.terms.now _ _ c.loop-term-test.false c.loop-term.invariant in
-    subst (IsCanonical (place_cmp ones) c.args.modulus) (sym all) (IsCanonical-negative (place_cmp ones) c.args.modulus c.args.terms.now c.requires.canonical)
+    let all =
+    mapped_all (negative_term c.args.modulus) c.args.terms.now _ _ c.loop-term-test.false c.loop-term.invariant in
+    subst (IsCanonical (place_cmp ones) c.args.modulus) (sym all)
+    (IsCanonical-negative (place_cmp ones) c.args.modulus c.args.terms.now c.requires.canonical)

@@ -18,5 +18,6 @@ returns-then-c-eq0 c =
 
 pub multiple_of_terms-requires-clause-room : goal.multiple_of_terms-requires-clause-room
 multiple_of_terms-requires-clause-room c =
-    let fits : MultipleFits c.args.a c.self.inside.terms.items = rw (ap (λ f. f.terms) c.self.view_is) c.requires.room in
+    let fits : MultipleFits c.args.a c.self.inside.terms.items =
+    rw (ap (λ f. f.terms) c.self.view_is) c.requires.room in
     rw c.deref.ensures.value (HasRoom-MultipleFits c.args.a _ c.self.invariant.descending fits)

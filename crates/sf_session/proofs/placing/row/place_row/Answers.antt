@@ -10,7 +10,8 @@ pub returns-then-have_degree-clause-vector : goal.returns-then-have_degree-claus
 returns-then-have_degree-clause-vector c =
     let degrees = c.args.degrees.now in
     let columns : IsBeforeColumn (length degrees) c.deref.result.now =
-    rw (c.deref.ensures.value, c.in_ok-terms.ensures) (placed_terms-columns c.args.ring.now 0 (length degrees) c.args.entries.now (zero-add _ ∙ c.requires.shaped)) in
+    rw (c.deref.ensures.value, c.in_ok-terms.ensures)
+    (placed_terms-columns c.args.ring.now 0 (length degrees) c.args.entries.now (zero-add _ ∙ c.requires.shaped)) in
     let tested : list_all (λ t. int_eq (place_degree ones degrees t.at) c.row_degree-degree.result) c.in_ok-terms-2.terms.items ≡ true =
     search rules in
     let vector : c.from_canonical.result ≡ record { degree = c.row_degree-degree.result; terms = c.in_ok-terms-2.terms.items } = search rules in

@@ -12,4 +12,5 @@ loop-i-init c = ap (λ t. c.push.new.self.items ++ t) (joined_from-start signed_
 pub loop-i-preserved : goal.loop-i-preserved
 loop-i-preserved c =
     let now : c.print_degree.new.text.items ≡ c.loop-i.text.items ++ separator_after (ltb 0 c.loop-i.i) comma ++ signed_decimal (get_or c.args.degrees.now c.loop-i.i (pos 0)) = search rules in
-    joined_from_more signed_decimal comma c.args.degrees.now _ _ _ c.loop-i.i _ c.loop-i.invariant (slice_get-get_or c.args.degrees.now c.loop-i.i (pos 0) c.loop-i-test.true) now
+    joined_from_more signed_decimal comma c.args.degrees.now _ _ _ c.loop-i.i _ c.loop-i.invariant
+    (slice_get-get_or c.args.degrees.now c.loop-i.i (pos 0) c.loop-i-test.true) now

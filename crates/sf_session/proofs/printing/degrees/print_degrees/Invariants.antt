@@ -6,4 +6,6 @@ use Rattle.sf_session.proofs.JoinedItems.{joined_from}
 use Rattle.sf_session.proofs.printing.degrees.print_degrees.Given as goal
 
 abbrev pub invariant-loop-i : goal.invariant-loop-i
-invariant-loop-i l = l.text.items ++ joined_from signed_decimal comma l.degrees l.i ≡ l.initial.text.items ++ join_with_byte comma (map signed_decimal l.degrees)
+invariant-loop-i l =
+    l.text.items ++ joined_from signed_decimal comma l.degrees l.i ≡ l.initial.text.items ++ join_with_byte comma
+    (map signed_decimal l.degrees)

@@ -14,6 +14,8 @@ loop-i-init c = ap (λ t. c.push.new.self.items ++ t) (joined_from-start signed_
 
 pub loop-i-preserved : goal.loop-i-preserved
 loop-i-preserved c =
-    let degree = slice_get-map (λ (v : Vector). v.degree) c.args.m.now.rows c.loop-i.i ∙ ap (option_map (λ (v : Vector). v.degree)) c.row.ensures.row in
+    let degree =
+    slice_get-map (λ (v : Vector). v.degree) c.args.m.now.rows c.loop-i.i
+    ∙ ap (option_map (λ (v : Vector). v.degree)) c.row.ensures.row in
     let now : c.print_degree.new.text.items ≡ c.loop-i.text.items ++ separator_after (ltb 0 c.loop-i.i) comma ++ signed_decimal c.row.result.now.degree = search rules in
     joined_from_more signed_decimal comma (row_degrees c.args.m.now) _ _ _ c.loop-i.i _ c.loop-i.invariant degree now

@@ -7,4 +7,6 @@ use Rattle.sf_session.proofs.JoinedItems.{joined_from}
 use Rattle.sf_session.proofs.printing.degrees.print_row_degrees.Given as goal
 
 abbrev pub invariant-loop-i : goal.invariant-loop-i
-invariant-loop-i l = l.text.items ++ joined_from signed_decimal comma (row_degrees l.m) l.i ≡ l.initial.text.items ++ join_with_byte comma (map signed_decimal (row_degrees l.m))
+invariant-loop-i l =
+    l.text.items ++ joined_from signed_decimal comma
+    (row_degrees l.m) l.i ≡ l.initial.text.items ++ join_with_byte comma (map signed_decimal (row_degrees l.m))

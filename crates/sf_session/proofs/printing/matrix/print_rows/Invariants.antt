@@ -8,4 +8,5 @@ use Rattle.sf_session.proofs.printing.matrix.print_rows.Given as goal
 abbrev pub invariant-loop-i : goal.invariant-loop-i
 invariant-loop-i l =
     let text_of = λ (v : Vector). row_text l.names l.columns v.terms in
-    l.text.items ++ joined_from text_of semicolon l.m.rows l.i ≡ l.initial.text.items ++ join_with_byte semicolon (map text_of l.m.rows)
+    l.text.items ++ joined_from text_of semicolon l.m.rows l.i ≡ l.initial.text.items ++ join_with_byte semicolon
+    (map text_of l.m.rows)

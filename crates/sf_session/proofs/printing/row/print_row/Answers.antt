@@ -16,12 +16,14 @@ loop-column-preserved c = record {
   same = λ i h. c.in_ok-next.ensures.later i (omega arith) ∙ c.loop-column.invariant.same i (omega arith);
   text =
       entries_from_more c.args.names.now c.args.columns c.args.row.now.terms c.loop-column.column c.loop-column.next _ _ _ _ c.loop-column-test.true
-      c.loop-column.invariant.text (c.loop-column.invariant.same c.loop-column.column (omega arith)) c.in_ok-separate.ensures.ok c.in_ok-next.ensures.ok;
+      c.loop-column.invariant.text
+      (c.loop-column.invariant.same c.loop-column.column (omega arith)) c.in_ok-separate.ensures.ok c.in_ok-next.ensures.ok;
 }
 
 pub returns : goal.returns
 returns c = record {
   ok =
-      written_all _ c.loop-column.text.items _ (entries_from-end c.args.names.now c.args.columns c.args.row.now.terms c.loop-column.column c.loop-column-test.false)
+      written_all _ c.loop-column.text.items _
+      (entries_from-end c.args.names.now c.args.columns c.args.row.now.terms c.loop-column.column c.loop-column-test.false)
       c.loop-column.invariant.text;
 }

@@ -9,5 +9,6 @@ abbrev pub invariant-loop-column : goal.invariant-loop-column
 invariant-loop-column l = record {
   from : IsFromColumn l.column l.next l.row.terms;
   same : (i : ℕ) → l.column ≤ i → entry i (drop l.next l.row.terms) ≡ entry i l.row.terms;
-  text : l.text.items ++ entries_from l.names l.columns l.row.terms l.column ≡ l.initial.text.items ++ row_text l.names l.columns l.row.terms;
+  text : l.text.items ++ entries_from l.names l.columns l.row.terms l.column
+      ≡ l.initial.text.items ++ row_text l.names l.columns l.row.terms;
 }

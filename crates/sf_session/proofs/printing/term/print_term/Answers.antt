@@ -12,7 +12,8 @@ pub returns-then-sum-gt0 : goal.returns-then-sum-gt0
 returns-then-sum-gt0 c = record {
   ok =
       let bare = term_text-bare c.args.names.now c.args.a c.args.coefficient c.if-coefficient-eq1.true (omega arith) in
-      on_ok_weaker c.print_factors.result (λ e. e ∙ ap (λ t. c.args.text.now.items ++ t) (sym bare)) c.print_factors.ensures.ok;
+      on_ok_weaker c.print_factors.result
+      (λ e. e ∙ ap (λ t. c.args.text.now.items ++ t) (sym bare)) c.print_factors.ensures.ok;
 }
 
 pub returns : goal.returns
@@ -24,7 +25,8 @@ returns c = record {
         | else-coefficient-eq1-via-then-coefficient-eq1+else-sum-gt0 w ↦ term_text-one c.args.names.now c.args.a c.args.coefficient w.if-coefficient-eq1.true (omega arith)
         | else-coefficient-eq1-via-else-coefficient-eq1 w ↦ term_text-coefficient c.args.names.now c.args.a c.args.coefficient w.if-coefficient-eq1.false
       ] in
-      let number : c.extend_from_slice.new.self.items ≡ c.args.text.now.items ++ decimal c.args.coefficient = search rules in
+      let number : c.extend_from_slice.new.self.items ≡ c.args.text.now.items ++ decimal c.args.coefficient =
+      search rules in
       on_ok_weaker c.print_factors-2.result
       (λ e. e ∙ ap (λ t. t ++ factors) number ∙ append_assoc c.args.text.now.items (decimal c.args.coefficient) factors ∙ ap (λ t. c.args.text.now.items ++ t) (sym shown))
       c.print_factors-2.ensures.ok;
