@@ -35,7 +35,7 @@ LeavesOutSecondIdentity =
     (m : Matrix) → 0 < m.ring.modulus → IsMatrix m → matrix_product m (identity m.ring m.target) ≡ m
 
 -- three factors may be grouped either way
-abbrev pub HasAssociativeProducts : Type 0
-HasAssociativeProducts =
+abbrev pub MultipliesAssociatively : Type 0
+MultipliesAssociatively =
     (a b c : Matrix) → 0 < a.ring.modulus → a.ring ≡ b.ring → matrix_product (matrix_product a b) c ≡ matrix_product a
     (matrix_product b c)

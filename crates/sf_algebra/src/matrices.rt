@@ -1,5 +1,5 @@
 ghost use Rattle.sf_algebra.specs.KroneckerLaws.{HasKroneckerProducts, MultipliesEntries, RepeatsSecondFactor, SpreadsFirstFactor, LeavesOutRing, KeepsIdentities, KeepsProducts, KeepsTransposes, KeepsStacks, TakesFirstNegative, TakesSecondNegative};
-ghost use Rattle.sf_algebra.specs.MatrixProductLaws.{HasMatrixProducts, MultipliesRowsByColumns, HasMatrixIdentities, LeavesOutFirstIdentity, LeavesOutSecondIdentity, HasAssociativeProducts};
+ghost use Rattle.sf_algebra.specs.MatrixProductLaws.{HasMatrixProducts, MultipliesRowsByColumns, HasMatrixIdentities, LeavesOutFirstIdentity, LeavesOutSecondIdentity, MultipliesAssociatively};
 ghost use Rattle.sf_algebra.specs.NegativeLaws.{HasMatrixNegatives, NegatesEntries, NegatesBack, NegatesWithFirstFactor, NegatesWithSecondFactor, TransposesNegatives};
 ghost use Rattle.sf_algebra.specs.PartLaws.{HasMatrixParts, PicksEntries, HasWholeParts, HasPartsOfParts, MultipliesParts, TransposesParts};
 ghost use Rattle.sf_algebra.specs.StackLaws.{HasMatrixStacks, HasFirstRows, HasLastRows, StacksParts, HasAssociativeStacks, MultipliesStacks, NegatesStacks};
@@ -12,7 +12,7 @@ pub fn matrix_products()
     ensures identities { HasMatrixIdentities }
     ensures first_identity { LeavesOutFirstIdentity }
     ensures second_identity { LeavesOutSecondIdentity }
-    ensures associative { HasAssociativeProducts }
+    ensures associative { MultipliesAssociatively }
 {}
 
 /// The transpose goes between the dual free modules, the other way, and undoes itself.

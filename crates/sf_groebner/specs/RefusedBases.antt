@@ -11,8 +11,8 @@ abbrev pub IsRefused : List Vector → Type 0
 IsRefused vs = IsReducedBasis ones (InSpan quadrics) vs → ⊥
 
 -- what else is asked of the list
-abbrev pub IsInside : List Vector → Type 0
-IsInside vs = AllByRecursion (InSpan quadrics) vs
+abbrev pub IsInsideQuadrics : List Vector → Type 0
+IsInsideQuadrics vs = AllByRecursion (InSpan quadrics) vs
 
 abbrev pub AreMonic : List Vector → Type 0
 AreMonic vs = AllByRecursion (λ (v : Vector). IsMonic v.terms) vs
@@ -27,7 +27,7 @@ later_lead_in_tail =
 
 abbrev pub RefusesLaterLeadInTail : Type 0
 RefusesLaterLeadInTail =
-    IsRefused later_lead_in_tail × IsInside later_lead_in_tail × AreMonic later_lead_in_tail × HasCompleteLeads later_lead_in_tail × IsSorted ones later_lead_in_tail
+    IsRefused later_lead_in_tail × IsInsideQuadrics later_lead_in_tail × AreMonic later_lead_in_tail × HasCompleteLeads later_lead_in_tail × IsSorted ones later_lead_in_tail
 
 -- y^3 + x^2 z has a multiple of the lead x^2 of an earlier row
 abbrev pub earlier_lead_in_tail : List Vector
@@ -35,7 +35,7 @@ earlier_lead_in_tail = first_row ∷ second_row ∷ vector 3 (term 1 0 (0 ∷ 3 
 
 abbrev pub RefusesEarlierLeadInTail : Type 0
 RefusesEarlierLeadInTail =
-    IsRefused earlier_lead_in_tail × IsInside earlier_lead_in_tail × AreMonic earlier_lead_in_tail × HasCompleteLeads earlier_lead_in_tail × IsSorted ones earlier_lead_in_tail
+    IsRefused earlier_lead_in_tail × IsInsideQuadrics earlier_lead_in_tail × AreMonic earlier_lead_in_tail × HasCompleteLeads earlier_lead_in_tail × IsSorted ones earlier_lead_in_tail
 
 -- x y and y^2 aren't in the span
 abbrev pub outside_rows : List Vector
@@ -51,7 +51,7 @@ doubled_row = first_row ∷ vector 2 (term 2 0 (1 ∷ 1 ∷ []) ∷ term 2 0 (0 
 
 abbrev pub RefusesDoubledRow : Type 0
 RefusesDoubledRow =
-    IsRefused doubled_row × IsInside doubled_row × HasCompleteLeads doubled_row × IsApart doubled_row × IsSorted ones doubled_row
+    IsRefused doubled_row × IsInsideQuadrics doubled_row × HasCompleteLeads doubled_row × IsApart doubled_row × IsSorted ones doubled_row
 
 -- a row is 0
 abbrev pub with_zero : List Vector
@@ -59,7 +59,7 @@ with_zero = first_row ∷ second_row ∷ third_row ∷ vector 4 [] ∷ []
 
 abbrev pub RefusesZero : Type 0
 RefusesZero =
-    IsRefused with_zero × IsInside with_zero × HasCompleteLeads with_zero × IsApart with_zero × IsSorted ones with_zero
+    IsRefused with_zero × IsInsideQuadrics with_zero × HasCompleteLeads with_zero × IsApart with_zero × IsSorted ones with_zero
 
 -- y^3 is wanting
 abbrev pub without_third_row : List Vector
@@ -67,7 +67,7 @@ without_third_row = first_row ∷ second_row ∷ []
 
 abbrev pub RefusesWithoutThirdRow : Type 0
 RefusesWithoutThirdRow =
-    IsRefused without_third_row × IsInside without_third_row × AreMonic without_third_row × IsApart without_third_row × IsSorted ones without_third_row
+    IsRefused without_third_row × IsInsideQuadrics without_third_row × AreMonic without_third_row × IsApart without_third_row × IsSorted ones without_third_row
 
 -- in one degree the smaller lead comes first
 abbrev pub smaller_lead_first : List Vector
@@ -75,7 +75,7 @@ smaller_lead_first = second_row ∷ first_row ∷ third_row ∷ []
 
 abbrev pub RefusesSmallerLeadFirst : Type 0
 RefusesSmallerLeadFirst =
-    IsRefused smaller_lead_first × IsInside smaller_lead_first × AreMonic smaller_lead_first × HasCompleteLeads smaller_lead_first × IsApart smaller_lead_first
+    IsRefused smaller_lead_first × IsInsideQuadrics smaller_lead_first × AreMonic smaller_lead_first × HasCompleteLeads smaller_lead_first × IsApart smaller_lead_first
 
 -- the greater degree comes first
 abbrev pub greater_degree_first : List Vector
@@ -83,4 +83,4 @@ greater_degree_first = third_row ∷ first_row ∷ second_row ∷ []
 
 abbrev pub RefusesGreaterDegreeFirst : Type 0
 RefusesGreaterDegreeFirst =
-    IsRefused greater_degree_first × IsInside greater_degree_first × AreMonic greater_degree_first × HasCompleteLeads greater_degree_first × IsApart greater_degree_first
+    IsRefused greater_degree_first × IsInsideQuadrics greater_degree_first × AreMonic greater_degree_first × HasCompleteLeads greater_degree_first × IsApart greater_degree_first

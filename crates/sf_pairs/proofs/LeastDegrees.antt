@@ -6,7 +6,7 @@ use Rattle.std.proofs.Math.Seq.{split_at}
 use Rattle.std.proofs.lemmas.Bool.Decides.{Decides-by_and, Decides-int_eq, Decides-like, same_from_decides}
 use Rattle.std.proofs.lemmas.Int.{ints}
 use Rattle.std.proofs.lemmas.List.Elements.{All-take, All-weaker}
-use Rattle.sf_pairs.specs.Queue.{QueuedPair, has_degree, HasLeast, is_least, count_least, count_least_in, IsTaken}
+use Rattle.sf_pairs.specs.Queue.{QueuedPair, is_of_degree, HasLeast, is_least, count_least, count_least_in, IsTaken}
 use Rattle.sf_pairs.proofs.Choices.{count_by-agree}
 
 Decides-int_le : (a b : ℤ) → Decides (int_le a b) (a ≤ℤ b)
@@ -31,24 +31,24 @@ module _ (d : ℤ) (queue : List QueuedPair) (least : HasLeast d queue) where
   highest : (e : QueuedPair) → e.degree ≡ d → All (λ (f : QueuedPair). e.degree ≤ℤ f.degree) queue
   highest e same = λ k x below. let above = least.1 k x below in omega (arith, ints, above, same)
 
-  is_least-HasLeast : (e : QueuedPair) → d ≤ℤ e.degree → is_least queue e ≡ has_degree d e
+  is_least-HasLeast : (e : QueuedPair) → d ≤ℤ e.degree → is_least queue e ≡ is_of_degree d e
   is_least-HasLeast e above =
       same_from_decides _ _ (Decides-like (is_least queue e) (lowest e above) (highest e) (Decides-is_least queue e))
       (Decides-int_eq e.degree d)
 
   -- those of least degree are counted by their degree
   pub count_least_in-HasLeast : (part : List QueuedPair) → All (λ (e : QueuedPair). d ≤ℤ e.degree) part
-      → count_least_in queue part ≡ count_by (has_degree d) part
+      → count_least_in queue part ≡ count_by (is_of_degree d) part
   count_least_in-HasLeast part above =
-      count_by-agree (is_least queue) (has_degree d) part
-      (All-weaker (λ (e : QueuedPair). d ≤ℤ e.degree) (λ e. is_least queue e ≡ has_degree d e) is_least-HasLeast part above)
+      count_by-agree (is_least queue) (is_of_degree d) part
+      (All-weaker (λ (e : QueuedPair). d ≤ℤ e.degree) (λ e. is_least queue e ≡ is_of_degree d e) is_least-HasLeast part above)
 
-  pub count_least-HasLeast : count_least queue ≡ count_by (has_degree d) queue
+  pub count_least-HasLeast : count_least queue ≡ count_by (is_of_degree d) queue
   count_least-HasLeast = count_least_in-HasLeast queue least.1
 
   -- the pair that stands at a place is taken
   pub IsTaken-place : (at place : ℕ) (e : QueuedPair) → place < length queue → e ≡ slice_index_or queue place e
-      → e.degree ≡ d → count_by (has_degree d) (take place queue) ≡ at
+      → e.degree ≡ d → count_by (is_of_degree d) (take place queue) ≡ at
       → IsTaken at queue e.first e.second (remove queue place)
   IsTaken-place at place e below there same count = record {
     degree = e.degree;

@@ -14,8 +14,8 @@ abbrev pub pair_of : ℤ → ℕ → ℕ → QueuedPair
 pair_of degree first second = record { degree = degree; first = first; second = second }
 
 -- whether a pair has degree d
-abbrev pub has_degree : ℤ → QueuedPair → Bool
-has_degree d e = int_eq e.degree d
+abbrev pub is_of_degree : ℤ → QueuedPair → Bool
+is_of_degree d e = int_eq e.degree d
 
 -- d is the least degree of a queue: the degree of one of its pairs, and above that of none
 abbrev pub HasLeast : ℤ → List QueuedPair → Type 0

@@ -1,5 +1,5 @@
 ghost use Rattle.std.specs.Prelude.{◌≡◌, ◌<◌, ◌↔◌, [], ◌∷◌, ◌++◌, length, take, count_by, HoldsAt, IsNone, IfSome, OnOk, OnErr};
-ghost use Rattle.sf_pairs.specs.Queue.{QueuedPair, pair_of, has_degree, HasLeast, count_least, IsTaken};
+ghost use Rattle.sf_pairs.specs.Queue.{QueuedPair, pair_of, is_of_degree, HasLeast, count_least, IsTaken};
 
 use sf_field::OutOfMemory;
 use std::alloc::Global;
@@ -98,7 +98,7 @@ impl PairQueue {
 
 /// How many entries have this degree.
 fn count_of_degree(entries: &[Entry], degree: i64) -> usize
-    ensures { result ≡ count_by (has_degree degree) entries.now }
+    ensures { result ≡ count_by (is_of_degree degree) entries.now }
 {
     entries
         .iter()
@@ -108,9 +108,9 @@ fn count_of_degree(entries: &[Entry], degree: i64) -> usize
 
 /// The place of the entry of this degree that has `at` others of this degree before it.
 fn place_of(entries: &[Entry], degree: i64, at: usize) -> usize
-    requires { at < count_by (has_degree degree) entries.now }
+    requires { at < count_by (is_of_degree degree) entries.now }
     ensures within { result < length entries.now }
-    ensures before { count_by (has_degree degree) (take result entries.now) ≡ at }
+    ensures before { count_by (is_of_degree degree) (take result entries.now) ≡ at }
     ensures degree { HoldsAt (λ (e : QueuedPair). e.degree ≡ degree) entries.now result }
 {
     let mut before = 0;

@@ -10,7 +10,7 @@ use Rattle.sf_algebra.specs.Monomials.{Monomial, monomial_cmp, exponent_sum, mon
 use Rattle.sf_algebra.specs.Rings.{ones}
 use Rattle.sf_algebra.specs.Terms.{Term, IsDescending}
 use Rattle.sf_algebra.proofs.Basics.Lists.{AllByRecursion-weaken}
-use Rattle.sf_poly.specs.Bounds.{IsBoundedBy, HasRoom, MultipleFits, ProductFits}
+use Rattle.sf_poly.specs.Bounds.{IsBoundedBy, ProductsHaveRoom, MultipleFits, ProductFits}
 use Rattle.sf_poly.specs.Polynomials.{lead}
 
 nat_cmp-lead : (m n : ℕ) (o : Ordering) → ordering_then (nat_cmp m n) o ≡ Less → m ≤ n
@@ -29,7 +29,7 @@ IsBoundedBy-lead t ts h = (omega arith, AllByRecursion-weaken _ _ (λ u less. ex
 
 -- a multiple has room where its greatest term has
 pub HasRoom-MultipleFits : (a : Monomial) (ts : List (Term Monomial)) → IsDescending (monomial_cmp ones) ts
-    → MultipleFits a ts → HasRoom a ts
+    → MultipleFits a ts → ProductsHaveRoom a ts
 HasRoom-MultipleFits a [] h fits = tt
 HasRoom-MultipleFits a (t ∷ ts) h fits =
     AllByRecursion-weaken (λ (u : Term Monomial). exponent_sum u.at ≤ exponent_sum t.at)
@@ -39,14 +39,14 @@ HasRoom-MultipleFits a (t ∷ ts) h fits =
 -- a product too
 pub HasRoom-ProductFits : (us vs : List (Term Monomial)) → IsDescending (monomial_cmp ones) us
     → IsDescending (monomial_cmp ones) vs → ProductFits us vs
-    → AllByRecursion (λ (t : Term Monomial). HasRoom t.at vs) us
+    → AllByRecursion (λ (t : Term Monomial). ProductsHaveRoom t.at vs) us
 HasRoom-ProductFits [] vs h k fits = tt
 HasRoom-ProductFits (t ∷ ts) [] h k fits =
     AllByRecursion-weaken (λ (u : Term Monomial). exponent_sum u.at ≤ exponent_sum t.at)
-    (λ (u : Term Monomial). HasRoom u.at []) (λ u below. tt) (t ∷ ts) (IsBoundedBy-lead t ts h)
+    (λ (u : Term Monomial). ProductsHaveRoom u.at []) (λ u below. tt) (t ∷ ts) (IsBoundedBy-lead t ts h)
 HasRoom-ProductFits (t ∷ ts) (v ∷ vs) h k fits =
     AllByRecursion-weaken (λ (u : Term Monomial). exponent_sum u.at ≤ exponent_sum t.at)
-    (λ (u : Term Monomial). HasRoom u.at (v ∷ vs))
+    (λ (u : Term Monomial). ProductsHaveRoom u.at (v ∷ vs))
     (λ u below. HasRoom-MultipleFits u.at (v ∷ vs) k (omega arith)) (t ∷ ts) (IsBoundedBy-lead t ts h)
 
 -- the same by the monomial of the greatest term

@@ -11,8 +11,8 @@ abbrev pub IsBoundedBy : ℕ → List (Term Monomial) → Type 0
 IsBoundedBy d ts = AllByRecursion (λ (t : Term Monomial). exponent_sum t.at ≤ d) ts
 
 -- the products of a monomial with each term of a list have room
-abbrev pub HasRoom : Monomial → List (Term Monomial) → Type 0
-HasRoom a ts = AllByRecursion (λ (u : Term Monomial). exponent_sum a + exponent_sum u.at ≤ GREATEST_SUM) ts
+abbrev pub ProductsHaveRoom : Monomial → List (Term Monomial) → Type 0
+ProductsHaveRoom a ts = AllByRecursion (λ (u : Term Monomial). exponent_sum a + exponent_sum u.at ≤ GREATEST_SUM) ts
 
 -- the product of a monomial with the greatest term of a polynomial has room
 abbrev pub MultipleFits : Monomial → List (Term Monomial) → Type 0

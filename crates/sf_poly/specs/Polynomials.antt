@@ -15,8 +15,8 @@ abbrev pub IsPolynomial : Polynomial → Type 0
 IsPolynomial f = IsCanonical (monomial_cmp f.ring.weights) f.ring.modulus f.terms
 
 -- the term with this coefficient at a monomial
-abbrev pub term_of : Monomial → ℕ → Term Monomial
-term_of a c = record { at = a; coefficient = c }
+abbrev pub monomial_term : Monomial → ℕ → Term Monomial
+monomial_term a c = record { at = a; coefficient = c }
 
 -- the monomial and the coefficient of the greatest term; 0 has none
 abbrev pub lead : List (Term Monomial) → Option (Monomial × ℕ)

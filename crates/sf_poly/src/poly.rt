@@ -6,7 +6,7 @@ ghost use Rattle.sf_algebra.specs.Rings.{plain};
 ghost use Rattle.sf_algebra.specs.Sums.{put};
 ghost use Rattle.sf_poly.specs.Bounds.{IsBoundedBy, MultipleFits, ProductFits};
 ghost use Rattle.sf_poly.specs.Equality.{same_polynomial, same_polynomial_equivalence, same_polynomial_partial};
-ghost use Rattle.sf_poly.specs.Polynomials.{IsPolynomial, term_of, lead, degree};
+ghost use Rattle.sf_poly.specs.Polynomials.{IsPolynomial, monomial_term, lead, degree};
 
 use crate::products::{multiple_of_terms, product_of_terms};
 use crate::sums::{add_terms, negative, push_nonzero};
@@ -96,7 +96,7 @@ impl Poly {
         requires residue { c < self.now.ring.modulus }
         requires room { MultipleFits a self.now.terms }
         ensures multiple { IfOk result (λ f. f ≡ record self.now {
-          terms = polynomial_multiple self.now.ring (term_of a c) self.now.terms;
+          terms = polynomial_multiple self.now.ring (monomial_term a c) self.now.terms;
         }) }
     {
         if c == 0 {
@@ -180,7 +180,7 @@ impl Poly {
     /// The monomial and the coefficient of term `k`. The greatest term has number 0.
     pub fn term_at(&self, k: usize) -> (Mono, u32)
         requires { k < length self.now.terms }
-        ensures term { slice_get self.now.terms k ≡ Some (term_of result.0 result.1) }
+        ensures term { slice_get self.now.terms k ≡ Some (monomial_term result.0 result.1) }
         ensures polynomial { IsPolynomial self.now }
     {
         let term = &self.terms[k];

@@ -5,7 +5,7 @@ ghost use Rattle.sf_algebra.specs.Multiples.{multiple};
 ghost use Rattle.sf_algebra.specs.Polynomials.{polynomial_product};
 ghost use Rattle.sf_algebra.specs.Rings.{plain, ones};
 ghost use Rattle.sf_algebra.specs.Terms.{IsCanonical, IsNonzeroResidue};
-ghost use Rattle.sf_poly.specs.Bounds.{HasRoom};
+ghost use Rattle.sf_poly.specs.Bounds.{ProductsHaveRoom};
 
 use crate::sums::add_terms;
 use crate::term::Term;
@@ -19,7 +19,7 @@ pub fn multiple_of_terms(
     factor: &Term,
     terms: &[Term],
 ) -> Result<Vec<Term>, OutOfMemory>
-    requires room { HasRoom factor.now.at terms.now }
+    requires room { ProductsHaveRoom factor.now.at terms.now }
     requires factor { IsNonzeroResidue modulus factor.now }
     requires terms { IsCanonical (monomial_cmp ones) modulus terms.now }
     ensures multiple { IfOk result (λ v. v.items ≡ multiple (monomial_cmp ones) product modulus factor.now terms.now) }
@@ -41,7 +41,7 @@ pub fn product_of_terms(
     left: &[Term],
     right: &[Term],
 ) -> Result<Vec<Term>, OutOfMemory>
-    requires room { AllByRecursion (λ t. HasRoom t.at right.now) left.now }
+    requires room { AllByRecursion (λ t. ProductsHaveRoom t.at right.now) left.now }
     requires left { AllByRecursion (IsNonzeroResidue modulus) left.now }
     requires right { IsCanonical (monomial_cmp ones) modulus right.now }
     ensures product { IfOk result (λ v. v.items ≡ polynomial_product (plain modulus) left.now right.now) }

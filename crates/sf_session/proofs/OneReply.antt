@@ -4,7 +4,7 @@ use Rattle.std.specs.Prelude.{MatchOption, MatchResult}
 use Rattle.std.specs.Bool.{MatchBool}
 use Rattle.sf_session.specs.Grammar.{line_of}
 use Rattle.sf_session.specs.Refusals.{refusal_text, definition}
-use Rattle.sf_session.specs.Replies.{Gives, Refused, Carried, Answered, Step, syntax_text}
+use Rattle.sf_session.specs.Replies.{Says, Refused, Carried, Answered, Step, syntax_text}
 use Rattle.sf_session.specs.State.{State, ring_of, opens, enters, module_named}
 use Rattle.sf_session.specs.declared.command.Command.TheVariants.{Spectral, Ring, Module, Show, Later}
 use Rattle.sf_session.specs.declared.command.Command.{Command}
@@ -20,7 +20,7 @@ pub record IsOne (P : List ℕ → State → Type 0) : Type 0 where
   pub met : P reply state
   pub only : (other : List ℕ) (new : State) → P other new → (other ≡ reply) × (new ≡ state)
 
-pub IsOne-Gives : (text : List ℕ) (after : State) → IsOne (Gives text after)
+pub IsOne-Gives : (text : List ℕ) (after : State) → IsOne (Says text after)
 IsOne-Gives text after = record { reply = text; state = after; met = (refl, refl); only = λ other new h. h }
 
 pub IsOne-MatchBool : (b : Bool) {P Q : List ℕ → State → Type 0} → IsOne P → IsOne Q

@@ -8,7 +8,7 @@ use Rattle.std.specs.Str.Parse.{AllDigits}
 use Rattle.std.proofs.Math.Nat.{pow-le-pow_right}
 use Rattle.std.proofs.lemmas.Bool.{leb-true}
 use Rattle.std.proofs.lemmas.Int.Digits.{digits_value-lt}
-use Rattle.sf_session.specs.MatrixText.{caret, all_of, exponent_of, factor_of}
+use Rattle.sf_session.specs.MatrixText.{caret, all_of, exponent_of, factor_written}
 use Rattle.sf_session.specs.Words.{are_digits, number_value, is_name, before, behind}
 use Rattle.sf_session.proofs.Digits.{&&-true, digit_value-digit, is_ascii_digit-bounds}
 
@@ -40,7 +40,7 @@ exponent_of-small (Some digits) = by (are_digits 3 digits) (number_value-small d
     by true small = small refl
     by false small = tt
 
-pub factor_of-small : (text : List ℕ) → IfSome (factor_of text) IsSmallFactor
+pub factor_of-small : (text : List ℕ) → IfSome (factor_written text) IsSmallFactor
 factor_of-small text = by (exponent_of (behind caret text)) (exponent_of-small (behind caret text))
   where
     named : (t : Bool) (name : List ℕ) (n : ℕ) → n ≤ 999 → IfSome (cond t (Some (name, n)) None) IsSmallFactor
@@ -53,9 +53,9 @@ factor_of-small text = by (exponent_of (behind caret text)) (exponent_of-small (
     by None small = tt
     by (Some n) small = named (is_name (before caret text)) (before caret text) n small
 
-pub all_of-small : (texts : List (List ℕ)) → IfSome (all_of factor_of texts) (AllByRecursion IsSmallFactor)
+pub all_of-small : (texts : List (List ℕ)) → IfSome (all_of factor_written texts) (AllByRecursion IsSmallFactor)
 all_of-small [] = tt
-all_of-small (text ∷ texts) = by (factor_of text) (all_of factor_of texts) (factor_of-small text) (all_of-small texts)
+all_of-small (text ∷ texts) = by (factor_written text) (all_of factor_written texts) (factor_of-small text) (all_of-small texts)
   where
     by : (o : Option (List ℕ × ℕ)) (p : Option (List (List ℕ × ℕ))) → IfSome o IsSmallFactor
         → IfSome p (AllByRecursion IsSmallFactor)

@@ -3,7 +3,7 @@ use Rattle.std.specs.Prelude.{ℕ, Bool, ◌&&◌, ◌||◌, if◌then◌else◌
 use Rattle.std.specs.Option.{option_map, option_map_or}
 use Rattle.std.specs.List.{list_all, list_any}
 use Rattle.std.specs.Str.{bytes_eq}
-use Rattle.sf_session.specs.MatrixText.{matrix_of}
+use Rattle.sf_session.specs.MatrixText.{matrix_written}
 use Rattle.sf_session.specs.Placed.{is_written_degree}
 use Rattle.sf_session.specs.Words.{words, begins_with, is_space, is_name, is_number, number_value, is_integer, integer_value}
 use Rattle.sf_session.specs.declared.command.Command.TheVariants.{Spectral, Ring, Module, Show, Later}
@@ -63,7 +63,7 @@ module_command arguments = do
   given ← after (codes "degrees") named.1
   degrees ← degrees_and_rest given
   text ← only degrees.1
-  relations ← matrix_of text
+  relations ← matrix_written text
   if is_name named.0 then Some (Module named.0 degrees.0 relations) else None
 
 -- the command words that the language has and that aren't built yet

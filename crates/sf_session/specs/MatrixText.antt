@@ -24,8 +24,8 @@ exponent_of None = Some 1
 exponent_of (Some digits) = if are_digits 3 digits then Some (number_value digits) else None
 
 -- NAME, or NAME^EXPONENT; what stands after the first caret is the exponent
-abbrev pub factor_of : List ℕ → Option (List ℕ × ℕ)
-factor_of text =
+abbrev pub factor_written : List ℕ → Option (List ℕ × ℕ)
+factor_written text =
     option_and_then (λ exponent. if is_name (before caret text) then Some (before caret text, exponent) else None)
     (exponent_of (behind caret text))
 
@@ -35,7 +35,7 @@ with_factors negative coefficient texts =
     option_and_then (λ factors.
     if nat_le (length factors) 6 then Some
     (record { minus = negative; coefficient = coefficient; factors = factors }) else None)
-    (all_of factor_of texts)
+    (all_of factor_written texts)
 
 -- a number, factors, or a number and factors, joined by stars
 abbrev pub term_of_parts : Bool → List (List ℕ) → Option RawTerm
@@ -44,8 +44,8 @@ term_of_parts negative (text ∷ texts) =
     if is_number text then with_factors negative (number_value text) texts else with_factors negative 1 (text ∷ texts)
 
 -- a term behind its sign
-abbrev pub term_of : Bool × List ℕ → Option RawTerm
-term_of signed = term_of_parts signed.0 (parts star signed.1)
+abbrev pub term_written : Bool × List ℕ → Option RawTerm
+term_written signed = term_of_parts signed.0 (parts star signed.1)
 
 abbrev pub is_sign : ℕ → Bool
 is_sign b = b == plus || b == minus
@@ -70,7 +70,7 @@ signed_left (Some rest) = signed_parts rest.0 rest.1
 -- a sum of terms, the first of which may have a minus
 abbrev pub entry_of : List ℕ → Option (List RawTerm)
 entry_of text =
-    all_of term_of (if begins_with minus text then signed_parts true (drop 1 text) else signed_parts false text)
+    all_of term_written (if begins_with minus text then signed_parts true (drop 1 text) else signed_parts false text)
 
 abbrev pub row_of : List ℕ → Option (List (List RawTerm))
 row_of text = all_of entry_of (parts comma text)
@@ -88,5 +88,5 @@ abbrev pub rows_of : List ℕ → Option (List (List (List RawTerm)))
 rows_of [] = Some []
 rows_of (b ∷ bs) = all_of row_of (parts semicolon (b ∷ bs))
 
-abbrev pub matrix_of : List ℕ → Option RawMatrix
-matrix_of text = if is_bracketed text then option_map (λ rows. record { rows = rows }) (rows_of (inner text)) else None
+abbrev pub matrix_written : List ℕ → Option RawMatrix
+matrix_written text = if is_bracketed text then option_map (λ rows. record { rows = rows }) (rows_of (inner text)) else None

@@ -9,6 +9,6 @@ pub record RawTerm : Type 0 where
   pub factors : List (List ℕ × ℕ)
 
 -- at most six factors, with exponents of at most three digits
-pub record IsSmall (t : RawTerm) : Type 0 where
+pub record IsSmallTerm (t : RawTerm) : Type 0 where
   pub few : length t.factors ≤ 6
   pub small : AllByRecursion (λ (f : List ℕ × ℕ). f.1 ≤ 999) t.factors

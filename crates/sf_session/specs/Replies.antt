@@ -26,15 +26,15 @@ module_text names relations =
     codes "degrees " ++ degrees_text relations.target ++ codes "\nrels " ++ matrix_text names relations ++ codes "\n"
 
 -- the reply is this text, and the state after it is this one
-abbrev pub Gives : List ℕ → State → List ℕ → State → Type 0
-Gives text after reply new = (reply ≡ text) × (new ≡ after)
+abbrev pub Says : List ℕ → State → List ℕ → State → Type 0
+Says text after reply new = (reply ≡ text) × (new ≡ after)
 
 -- the line is accepted and leaves this state, or it is refused for this reason and changes nothing
 abbrev pub Accepted : State → List ℕ → State → Type 0
-Accepted after reply new = Gives ok_text after reply new
+Accepted after reply new = Says ok_text after reply new
 
 abbrev pub Refused : Refusal → State → List ℕ → State → Type 0
-Refused refusal old reply new = Gives (refusal_text refusal) old reply new
+Refused refusal old reply new = Says (refusal_text refusal) old reply new
 
 -- what a command of the grammar gives
 abbrev pub Carried : Command → State → List ℕ → State → Type 0
@@ -53,13 +53,13 @@ Carried (Module name degrees relations) old reply new =
 Carried (Show name) old reply new =
     MatchOption (ring_of old.heads) (Refused Heading old reply new) (λ ring.
     MatchOption (module_named name old.modules) (Refused (Unknown name) old reply new) (λ relations.
-    Gives (module_text ring.names relations) old reply new))
+    Says (module_text ring.names relations) old reply new))
 Carried Later old reply new = Refused Unbuilt old reply new
 
 -- what a line gives
 abbrev pub Answered : Line → State → List ℕ → State → Type 0
-Answered Silent old reply new = Gives [] old reply new
-Answered Malformed old reply new = Gives syntax_text old reply new
+Answered Silent old reply new = Says [] old reply new
+Answered Malformed old reply new = Says syntax_text old reply new
 Answered (Read command) old reply new = Carried command old reply new
 
 -- one line of a script: the reply with its LF, or nothing where there is none, and the state after it

@@ -3,7 +3,7 @@ ghost use Rattle.std.specs.List.{AllByRecursion, count_by};
 ghost use Rattle.std.specs.Option.{option_map};
 ghost use Rattle.sf_algebra.specs.Printing.{star};
 ghost use Rattle.sf_session.specs.Words.{parts, parts_left};
-ghost use Rattle.sf_session.specs.MatrixText.{is_sign, all_of, signed_left, exponent_of, factor_of, with_factors, term_of, signed_parts, entry_of, row_of, matrix_of};
+ghost use Rattle.sf_session.specs.MatrixText.{is_sign, all_of, signed_left, exponent_of, factor_written, with_factors, term_written, signed_parts, entry_of, row_of, matrix_written};
 
 use crate::raw::{RawMatrix, RawTerm};
 use crate::reading::make_name;
@@ -59,7 +59,7 @@ fn count(text: &[u8], byte: u8) -> usize
 }
 
 impl Written for (Name, u16) {
-    ghost written = { factor_of };
+    ghost written = { factor_written };
 
     fn read(alloc: Global, text: &[u8]) -> Result<Option<(Name, u16)>, OutOfMemory> {
         let (name, rest) = next_part(text, b'^');
@@ -92,7 +92,7 @@ fn read_exponent(text: Option<&[u8]>) -> Option<u16>
 
 /// A term behind its sign.
 fn read_term(alloc: Global, minus: bool, text: &[u8]) -> Result<Option<RawTerm>, OutOfMemory>
-    ensures { IfOk result (λ r. r ≡ term_of (minus, text.now)) }
+    ensures { IfOk result (λ r. r ≡ term_written (minus, text.now)) }
 {
     let (first, others) = next_part(text, b'*');
     match read_number(first) {
@@ -125,7 +125,7 @@ fn read_factors(
 
 #[tactic(auto, using(crate::proofs::SmallTerms::small_rules))]
 fn factors_of(alloc: Global, text: Option<&[u8]>) -> Result<Option<List<(Name, u16)>>, OutOfMemory>
-    ensures value { IfOk result (λ r. r ≡ all_of factor_of (parts_left star (option_copied text.entry))) }
+    ensures value { IfOk result (λ r. r ≡ all_of factor_written (parts_left star (option_copied text.entry))) }
     ensures small { IfOk result (λ r. IfSome r (AllByRecursion (λ f. f.1 ≤ 999))) }
 {
     match text {
@@ -136,7 +136,7 @@ fn factors_of(alloc: Global, text: Option<&[u8]>) -> Result<Option<List<(Name, u
 
 /// The terms of a sum, the first of which has this sign.
 fn read_terms(alloc: Global, minus: bool, text: &[u8]) -> Result<Option<List<RawTerm>>, OutOfMemory>
-    ensures { IfOk result (λ r. r ≡ all_of term_of (signed_parts minus text.now)) }
+    ensures { IfOk result (λ r. r ≡ all_of term_written (signed_parts minus text.now)) }
 {
     let signs = text.iter().filter(|byte| is_sign(**byte)).count();
     let mut terms = List::with_capacity(alloc, signs.saturating_add(1))?;
@@ -201,7 +201,7 @@ impl Written for List<List<RawTerm>> {
 
 /// The matrix that a text writes, if it writes one.
 pub fn read_matrix(alloc: Global, text: &[u8]) -> Result<Option<RawMatrix>, OutOfMemory>
-    ensures { IfOk result (λ r. r ≡ matrix_of text.now) }
+    ensures { IfOk result (λ r. r ≡ matrix_written text.now) }
 {
     if text.len() < 2 || text[0] != b'[' || text[text.len() - 1] != b']' {
         return Ok(None);

@@ -12,13 +12,13 @@ pub struct RawTerm {
 }
 
 impl Model for RawTerm {
-    ghost use Rattle.sf_session.specs.Raw.{RawTerm, IsSmall};
+    ghost use Rattle.sf_session.specs.Raw.{RawTerm, IsSmallTerm};
 
     ghost Value = { RawTerm };
 
     ghost view = { λ t. record { minus = t.minus; coefficient = t.coefficient; factors = t.factors } };
 
-    ghost invariant = { λ t. IsSmall (record { minus = t.minus; coefficient = t.coefficient; factors = t.factors }) };
+    ghost invariant = { λ t. IsSmallTerm (record { minus = t.minus; coefficient = t.coefficient; factors = t.factors }) };
 }
 
 /// A matrix as a script writes it: rows of entries, which are sums of terms.

@@ -15,8 +15,8 @@ abbrev pub with_terms : (List (Term Place) → List (Term Place)) → List Vecto
 with_terms f vs = map (λ (v : Vector). record { degree = v.degree; terms = f v.terms }) vs
 
 -- all terms stand at the first n positions
-abbrev pub IsWithin : ℕ → List (Term Place) → Type 0
-IsWithin n ts = AllByRecursion (λ t. t.at.position < n) ts
+abbrev pub StandsWithin : ℕ → List (Term Place) → Type 0
+StandsWithin n ts = AllByRecursion (λ t. t.at.position < n) ts
 
 pub row_at-drop : (n : ℕ) (vs : List Vector) (i k : ℕ) → k ≡ n + i → row_at (drop n vs) i ≡ row_at vs k
 row_at-drop zero vs i k e = ap (row_at vs) (let same : i ≡ k = omega arith in same)
@@ -41,9 +41,9 @@ module _ (ring : Ring) (degrees : List ℤ) (vs : List Vector) (h : AllByRecursi
   pub IsCanonical-matrix_row : (i : ℕ) → IsCanonicalRow ring (row_at vs i)
   IsCanonical-matrix_row = IsCanonical-row_at ring vs (AllByRecursion-weaken _ _ (λ v k. k.canonical) vs h)
 
-  pub IsWithin-matrix_row : (i : ℕ) → IsWithin (length degrees) (row_at vs i)
+  pub IsWithin-matrix_row : (i : ℕ) → StandsWithin (length degrees) (row_at vs i)
   IsWithin-matrix_row i =
-      row_at-each (IsWithin (length degrees)) tt vs
+      row_at-each (StandsWithin (length degrees)) tt vs
       (AllByRecursion-weaken _ _ (λ v k. AllByRecursion-weaken _ _ (λ t e. e.0) v.terms k.homogeneous) vs h) i
 
 pub same_rows : (us vs : List Vector) → map (λ (v : Vector). v.degree) us ≡ map (λ (v : Vector). v.degree) vs

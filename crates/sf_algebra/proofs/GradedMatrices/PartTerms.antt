@@ -15,7 +15,7 @@ use Rattle.sf_algebra.specs.Rings.{Ring, Weights}
 use Rattle.sf_algebra.specs.Terms.{Term, IsDescending, IsNonzeroResidue, IsCanonical}
 use Rattle.sf_algebra.specs.Vectors.{Place, Vector, place_cmp, entry, generator_degree, IsTermOfDegree, IsVector, IsCanonicalRow}
 use Rattle.sf_algebra.proofs.GradedMatrices.Columns.{AllByRecursion-always}
-use Rattle.sf_algebra.proofs.GradedMatrices.MatrixRows.{IsWithin}
+use Rattle.sf_algebra.proofs.GradedMatrices.MatrixRows.{StandsWithin}
 use Rattle.sf_algebra.proofs.Vectors.Entries.{without_position, entry-here, entry-elsewhere}
 
 -- a term that stands so many positions earlier
@@ -103,13 +103,13 @@ entry-part_terms from to j (t ∷ ts) h =
     ]
 
 -- past the range there is nothing
-pub IsWithin-part_terms : (from to : ℕ) (ts : List (Term Place)) → IsWithin (to - from) (part_terms from to ts)
+pub IsWithin-part_terms : (from to : ℕ) (ts : List (Term Place)) → StandsWithin (to - from) (part_terms from to ts)
 IsWithin-part_terms from to ts =
     AllByRecursion-part_terms (λ _. Unit {0}) _ from to (λ t reached within h. omega arith) ts
     (AllByRecursion-always _ (λ t. tt) ts)
 
 -- a vector all of whose terms stand in the range
-pub part_terms-whole : (n : ℕ) (ts : List (Term Place)) → IsWithin n ts → part_terms 0 n ts ≡ ts
+pub part_terms-whole : (n : ℕ) (ts : List (Term Place)) → StandsWithin n ts → part_terms 0 n ts ≡ ts
 part_terms-whole n [] h = refl
 part_terms-whole n (t ∷ ts) h =
     part_terms-inside 0 n t ts (omega arith) h.0

@@ -12,7 +12,7 @@ use Rattle.sf_algebra.specs.Terms.{Term}
 use Rattle.sf_algebra.specs.Vectors.{Place, Vector, entry, IsVector}
 use Rattle.sf_algebra.proofs.Basics.Lists.{AllByRecursion-weaken}
 use Rattle.sf_algebra.proofs.GradedMatrices.Columns.{entry-column_terms, IsDescending-column_terms, IsVector-column}
-use Rattle.sf_algebra.proofs.GradedMatrices.MatrixRows.{IsWithin, IsCanonical-matrix_row, IsWithin-matrix_row, same_matrices}
+use Rattle.sf_algebra.proofs.GradedMatrices.MatrixRows.{StandsWithin, IsCanonical-matrix_row, IsWithin-matrix_row, same_matrices}
 use Rattle.sf_algebra.proofs.Vectors.Entries.{entry-elsewhere}
 use Rattle.sf_algebra.proofs.Vectors.Positions.{same_from_entries}
 use Rattle.sf_algebra.proofs.Vectors.Rows.{row_at-past}
@@ -46,7 +46,7 @@ row_at-column_rows rows j (d ∷ ds) zero n h e = ap (λ m. column_terms m 0 row
 row_at-column_rows rows j (d ∷ ds) (suc k) n h e = row_at-column_rows rows (suc j) ds k n (omega arith) (omega arith)
 
 -- past the last position there is nothing
-pub entry-outside : (n : ℕ) (ts : List (Term Place)) (j : ℕ) → IsWithin n ts → n ≤ j → entry j ts ≡ []
+pub entry-outside : (n : ℕ) (ts : List (Term Place)) (j : ℕ) → StandsWithin n ts → n ≤ j → entry j ts ≡ []
 entry-outside n [] j h le = refl
 entry-outside n (t ∷ ts) j h le = entry-elsewhere j t ts (λ e. omega (arith, h.0)) ∙ entry-outside n ts j h.1 le
 

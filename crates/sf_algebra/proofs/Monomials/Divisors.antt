@@ -17,9 +17,9 @@ pub same_monomial : (a b : Monomial) → a.e1 ≡ b.e1 → a.e2 ≡ b.e2 → a.e
 same_monomial a b p1 p2 p3 p4 p5 p6 = λ i. record { e1 = p1 i; e2 = p2 i; e3 = p3 i; e4 = p4 i; e5 = p5 i; e6 = p6 i }
 
 -- equal monomials have equal exponents
-pub same_exponents : (a b : Monomial) → a ≡ b
+pub exponents_equal : (a b : Monomial) → a ≡ b
     → (a.e1 ≡ b.e1) × (a.e2 ≡ b.e2) × (a.e3 ≡ b.e3) × (a.e4 ≡ b.e4) × (a.e5 ≡ b.e5) × (a.e6 ≡ b.e6)
-same_exponents a b e =
+exponents_equal a b e =
     (ap (λ m. m.e1) e, ap (λ m. m.e2) e, ap (λ m. m.e3) e, ap (λ m. m.e4) e, ap (λ m. m.e5) e, ap (λ m. m.e6) e)
 
 pub product-quotient : (a b : Monomial) → Divides b a → product b (quotient a b) ≡ a
@@ -28,7 +28,7 @@ product-quotient a b h =
 
 pub quotient-only : (a b c : Monomial) → product b c ≡ a → c ≡ quotient a b
 quotient-only a b c e =
-    let p = same_exponents _ a e in
+    let p = exponents_equal _ a e in
     same_monomial c (quotient a b) (omega arith) (omega arith) (omega arith) (omega arith) (omega arith) (omega arith)
 
 pub product-cancel : (a b c : Monomial) → product a b ≡ product a c → b ≡ c
@@ -39,7 +39,7 @@ Divides-product a b = (omega arith, omega arith, omega arith, omega arith, omega
 
 pub Divides-multiple : (a b c : Monomial) → product a c ≡ b → Divides a b
 Divides-multiple a b c e =
-    let p = same_exponents _ b e in
+    let p = exponents_equal _ b e in
     (omega arith, omega arith, omega arith, omega arith, omega arith, omega arith)
 
 pub Divides-iff : (a b : Monomial) → Divides a b ↔ ((c : Monomial) × (product a c ≡ b))

@@ -11,7 +11,7 @@ use Rattle.sf_algebra.specs.Rings.{Ring}
 use Rattle.sf_algebra.specs.Sums.{total}
 use Rattle.sf_algebra.specs.Terms.{Term}
 use Rattle.sf_algebra.specs.Vectors.{Place, entry}
-use Rattle.sf_algebra.proofs.GradedMatrices.MatrixRows.{IsWithin, IsWithin-matrix_row}
+use Rattle.sf_algebra.proofs.GradedMatrices.MatrixRows.{StandsWithin, IsWithin-matrix_row}
 use Rattle.sf_algebra.proofs.Multiplying.CombinationLaws.{combination-same}
 use Rattle.sf_algebra.proofs.Multiplying.Combinations.{total-combination}
 use Rattle.sf_algebra.proofs.Multiplying.Keys.{monomial_keys}
@@ -43,7 +43,7 @@ other_pair i j k l n other first second same =
     ]
 
 -- terms moved by another number of blocks of n positions
-entry-moved_other : (n i j l : ℕ) (ts : List (Term Place)) → i ≢ j → l < n → IsWithin n ts
+entry-moved_other : (n i j l : ℕ) (ts : List (Term Place)) → i ≢ j → l < n → StandsWithin n ts
     → entry (j * n + l) (moved (i * n) ts) ≡ []
 entry-moved_other n i j l [] other inside within = refl
 entry-moved_other n i j l (t ∷ ts) other inside within =
@@ -53,7 +53,7 @@ entry-moved_other n i j l (t ∷ ts) other inside within =
 
 module _ (ring : Ring) (n : ℕ) (positive : 0 < ring.modulus) where
   -- the entry at a pair's number is the product of the two entries
-  pub entry-kronecker_terms : (j l : ℕ) (v w : List (Term Place)) → l < n → IsWithin n w
+  pub entry-kronecker_terms : (j l : ℕ) (v w : List (Term Place)) → l < n → StandsWithin n w
       → entry (j * n + l) (kronecker_terms ring n v w) ≡ polynomial_product ring (entry j v) (entry l w)
   entry-kronecker_terms j l v w inside within =
       entry-combination ring positive (j * n + l) (λ (k : Place). k.monomial)

@@ -10,7 +10,7 @@ use Rattle.sf_algebra.specs.Terms.{Term}
 use Rattle.sf_algebra.specs.Vectors.{Place, Vector, place_cmp}
 use Rattle.sf_algebra.proofs.Basics.Lists.{AllByRecursion-weaken}
 use Rattle.sf_algebra.proofs.GradedMatrices.Columns.{AllByRecursion-always}
-use Rattle.sf_algebra.proofs.GradedMatrices.MatrixRows.{IsWithin, with_terms}
+use Rattle.sf_algebra.proofs.GradedMatrices.MatrixRows.{StandsWithin, with_terms}
 use Rattle.sf_algebra.proofs.Multiplying.Associativity.{combination_combination}
 use Rattle.sf_algebra.proofs.Multiplying.CombinationLaws.{combination-same, combination-rows}
 use Rattle.sf_algebra.proofs.Multiplying.Combinations.{IsCanonical-combination, total-combination}
@@ -38,7 +38,7 @@ module _ (ring : Ring) (positive : 0 < ring.modulus) where
 
   -- the tensor product of two combinations combines the Kronecker product's rows
   pub kronecker_terms-row_combinations : (n : ℕ) (us vs : List Vector) (v w : List (Term Place))
-      → IsWithin (length vs) w
+      → StandsWithin (length vs) w
       → kronecker_terms ring n (row_combination ring us v) (row_combination ring vs w)
       ≡ row_combination ring (kronecker_rows ring n us vs) (kronecker_terms ring (length vs) v w)
   kronecker_terms-row_combinations n us vs v w within =
@@ -93,11 +93,11 @@ kronecker-matrix_product a b c d ab cd rings is_matrix =
     size : length d.rows ≡ length c.target
     size = sym (length-map d.rows (λ (v : Vector). v.degree)) ∙ ap length cd.degrees
 
-    row : (u v : List (Term Place)) → IsWithin (length c.target) v
+    row : (u v : List (Term Place)) → StandsWithin (length c.target) v
         → kronecker_terms a.ring (length d.target) (row_combination a.ring b.rows u) (row_combination a.ring d.rows v)
         ≡ row_combination a.ring (kronecker_rows a.ring (length d.target) b.rows d.rows)
         (kronecker_terms a.ring (length c.target) u v)
     row u v within =
         kronecker_terms-row_combinations a.ring ab.positive (length d.target) b.rows d.rows u v
-        (subst (λ k. IsWithin k v) (sym size) within)
+        (subst (λ k. StandsWithin k v) (sym size) within)
         ∙ ap (λ k. row_combination a.ring (kronecker_rows a.ring (length d.target) b.rows d.rows) (kronecker_terms a.ring k u v)) size

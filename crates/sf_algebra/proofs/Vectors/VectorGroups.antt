@@ -22,7 +22,7 @@ use Rattle.sf_algebra.proofs.Terms.Sums.{add_comm, add_assoc, add-nil}
 use Rattle.sf_algebra.proofs.Vectors.HomogeneousVectors.{IsVector-add, IsVector-nil, IsVector-negative, IsVector-row_combination}
 use Rattle.sf_algebra.proofs.Vectors.RowSums.{row_sum-comm, row_sum-assoc, row_sum-nil}
 use Rattle.sf_algebra.proofs.Vectors.Rows.{IsCanonical-row_combination, row_combination-add, row_combination-multiple}
-use Rattle.sf_algebra.proofs.Vectors.VectorProps.{same_canonical, same_vector}
+use Rattle.sf_algebra.proofs.Vectors.VectorProps.{same_canonical, vector_unique}
 
 -- the canonical lists of terms at what the monomials act on, with the terms of polynomials as operators
 abbrev pub canonical_lists : {K : Type 0} → Keys K → (p : ℕ) → 0 < p → Group (Term Monomial)
@@ -71,10 +71,10 @@ vectors_of_degree ring positive degrees d = record {
   plus = λ u v. (row_sum ring u.0 v.0, IsVector-add ring degrees positive d u.0 v.0 u.1 v.1);
   minus = λ u. (negative ring.modulus u.0, IsVector-negative ring degrees d u.0 u.1);
   act = λ r u. absurd r;
-  comm = λ u v. same_vector ring degrees d _ _ (row_sum-comm ring positive u.0 v.0);
-  assoc = λ u v w. same_vector ring degrees d _ _ (row_sum-assoc ring positive u.0 v.0 w.0);
-  unit = λ u. same_vector ring degrees d _ _ (row_sum-nil ring positive u.0 (u.1).canonical);
-  inverse = λ u. same_vector ring degrees d _ _ (add-negative (place_keys ring.weights) ring.modulus positive u.0 (u.1).canonical);
+  comm = λ u v. vector_unique ring degrees d _ _ (row_sum-comm ring positive u.0 v.0);
+  assoc = λ u v w. vector_unique ring degrees d _ _ (row_sum-assoc ring positive u.0 v.0 w.0);
+  unit = λ u. vector_unique ring degrees d _ _ (row_sum-nil ring positive u.0 (u.1).canonical);
+  inverse = λ u. vector_unique ring degrees d _ _ (add-negative (place_keys ring.weights) ring.modulus positive u.0 (u.1).canonical);
   act_plus = λ r u v. absurd r;
 }
 
@@ -95,6 +95,6 @@ module _ (m : Matrix) (positive : 0 < m.ring.modulus) (d : ℤ) where
   pub combined_matrix-map : (is_matrix : IsMatrix m)
       → IsMap coefficients_of_degree values_of_degree (combined_matrix is_matrix)
   combined_matrix-map is_matrix = record {
-    to_plus = λ c e. same_vector m.ring m.target d _ _ (row_combination-add m.ring positive m.rows c.0 e.0);
+    to_plus = λ c e. vector_unique m.ring m.target d _ _ (row_combination-add m.ring positive m.rows c.0 e.0);
     to_act = λ r c. absurd r;
   }

@@ -25,6 +25,6 @@ pub same_canonical : {K : Type 0} (cmp : K → K → Ordering) (p : ℕ) (u v : 
 same_canonical cmp p u v e = Σ_prop_path (IsCanonical-prop cmp p) e
 
 -- vectors of degree d, each with the proof that it is
-pub same_vector : (ring : Ring) (degrees : List ℤ) (d : ℤ)
+pub vector_unique : (ring : Ring) (degrees : List ℤ) (d : ℤ)
     (u v : (ts : List (Term Place)) × IsVector ring degrees (record { degree = d; terms = ts })) → u.0 ≡ v.0 → u ≡ v
-same_vector ring degrees d u v e = Σ_prop_path (λ ts. IsVector-prop ring degrees (record { degree = d; terms = ts })) e
+vector_unique ring degrees d u v e = Σ_prop_path (λ ts. IsVector-prop ring degrees (record { degree = d; terms = ts })) e

@@ -8,7 +8,8 @@ use Rattle.sf_algebra.specs.Vectors.{Vector}
 use Rattle.sf_groebner.specs.Lifts.{IsLift}
 use Rattle.sf_groebner.specs.ReducedBases.{IsReducedBy, IsReducedBasis, IsSyzygyBasis}
 use Rattle.sf_groebner.specs.Spans.{combined, IsSyzygy}
-use Rattle.sf_groebner.proofs.Basics.Propositions.{IsVector-prop, IsReducedBy-prop, syzygy_basis-prop}
+use Rattle.sf_algebra.proofs.Vectors.VectorProps.{IsVector-prop}
+use Rattle.sf_groebner.proofs.Basics.Propositions.{IsReducedBy-prop, syzygy_basis-prop}
 use Rattle.sf_groebner.proofs.Spanning.Spans.{syzygy_module}
 use Rattle.sf_groebner.proofs.Uniqueness.UniqueBases.{unique_reduced}
 

@@ -11,18 +11,7 @@ use Rattle.sf_algebra.specs.Vectors.{Place, Vector, place_cmp, IsVector}
 use Rattle.sf_groebner.specs.ReducedBases.{IsMonic, HasDividedLead, IsReducedBy, IsApart, IsSorted, IsReducedBasis, IsSyzygyBasis, IsGraphBasis}
 use Rattle.sf_groebner.specs.Small.{HasLeadUpTo, IsWithinLimit, IsSmall, IsLarge}
 use Rattle.sf_groebner.specs.Spans.{IsSyzygy, IsGraphVector}
-
-IsDescending-prop : {K : Type 0} (cmp : K → K → Ordering) (ts : List (Term K)) → IsProp (IsDescending cmp ts)
-IsDescending-prop cmp [] = hlevel props
-IsDescending-prop cmp (t ∷ ts) = let rest = IsDescending-prop cmp ts in hlevel (props, rest)
-
-pub IsCanonical-prop : {K : Type 0} (cmp : K → K → Ordering) (p : ℕ) (ts : List (Term K))
-    → IsProp (IsCanonical cmp p ts)
-IsCanonical-prop cmp p ts = let descending = IsDescending-prop cmp ts in hlevel (props, descending)
-
-pub IsVector-prop : (ring : Ring) (degrees : List ℤ) (v : Vector) → IsProp (IsVector ring degrees v)
-IsVector-prop ring degrees v =
-    let canonical = IsCanonical-prop (place_cmp ring.weights) ring.modulus v.terms in hlevel (props, canonical)
+use Rattle.sf_algebra.proofs.Vectors.VectorProps.{IsVector-prop}
 
 pub IsMatrix-prop : (m : Matrix) → IsProp (IsMatrix m)
 IsMatrix-prop m = AllByRecursion-prop _ (IsVector-prop m.ring m.target) m.rows

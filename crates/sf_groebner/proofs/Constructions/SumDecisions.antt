@@ -11,7 +11,7 @@ use Rattle.sf_algebra.specs.Terms.{Term}
 use Rattle.sf_algebra.specs.VectorOperations.{row_sum}
 use Rattle.sf_algebra.specs.Vectors.{Place, Vector, place_cmp, IsVector}
 use Rattle.sf_algebra.proofs.Basics.Lists.{AllByRecursion-append, AllByRecursion-weaken}
-use Rattle.sf_algebra.proofs.GradedMatrices.MatrixRows.{IsWithin}
+use Rattle.sf_algebra.proofs.GradedMatrices.MatrixRows.{StandsWithin}
 use Rattle.sf_algebra.proofs.GradedMatrices.PartTerms.{IsVector-part_terms}
 use Rattle.sf_algebra.proofs.GradedMatrices.Ranges.{slice_range-first, slice_range-second}
 use Rattle.sf_algebra.proofs.Monomials.Orders.{place_cmp_linear}
@@ -64,7 +64,7 @@ module _ (ring : Ring) (positive : IsRing ring) (target : List ℤ) (earlier row
       let pair : IsVector ring (degrees_of earlier ++ degrees_of rows) (record { degree = v.degree; terms = paired_terms n s.coefficients c.terms }) =
       subst (λ k. IsVector ring (degrees_of earlier ++ degrees_of rows) (record { degree = v.degree; terms = paired_terms k s.coefficients c.terms })) (length-degrees_of earlier)
       (IsVector-pair (degrees_of earlier) (degrees_of rows) v.degree ring s.coefficients c.terms s.vector last) in
-      let within : IsWithin n s.coefficients = subst (λ k. IsWithin k s.coefficients) (length-degrees_of earlier) (AllByRecursion-weaken _ _ (λ t k. k.0) s.coefficients s.vector.homogeneous) in
+      let within : StandsWithin n s.coefficients = subst (λ k. StandsWithin k s.coefficients) (length-degrees_of earlier) (AllByRecursion-weaken _ _ (λ t k. k.0) s.coefficients s.vector.homogeneous) in
       let terms : row_combination ring (earlier ++ rows) (paired_terms n s.coefficients c.terms) ≡ v.terms =
       row_combination-stacked ring positive.modulus earlier rows s.coefficients c.terms within
       ∙ row_sum-comm ring positive.modulus (row_combination ring earlier s.coefficients)
@@ -95,9 +95,9 @@ module _ (ring : Ring) (positive : IsRing ring) (target : List ℤ) (earlier row
       subst (λ ds. IsVector ring ds (vector_part n end c)) (slice_range-second (degrees_of earlier) (degrees_of rows) n end (length-degrees_of earlier) fits)
       (IsVector-part_terms ring (degrees_of earlier ++ degrees_of rows) n end c blocks) in
       let size : length (degrees_of earlier ++ degrees_of rows) ≡ n + length rows = rw length-append (λ i. length-degrees_of earlier i + length-degrees_of rows i) in
-      let within : IsWithin (n + length rows) c.terms =
-      subst (λ k. IsWithin k c.terms) size (AllByRecursion-weaken _ _ (λ t k. k.0) c.terms blocks.homogeneous) in
-      let first_within : IsWithin n (part_terms 0 n c.terms) = subst (λ k. IsWithin k (part_terms 0 n c.terms)) (length-degrees_of earlier) (AllByRecursion-weaken _ _ (λ t k. k.0) (part_terms 0 n c.terms) first.homogeneous) in
+      let within : StandsWithin (n + length rows) c.terms =
+      subst (λ k. StandsWithin k c.terms) size (AllByRecursion-weaken _ _ (λ t k. k.0) c.terms blocks.homogeneous) in
+      let first_within : StandsWithin n (part_terms 0 n c.terms) = subst (λ k. StandsWithin k (part_terms 0 n c.terms)) (length-degrees_of earlier) (AllByRecursion-weaken _ _ (λ t k. k.0) (part_terms 0 n c.terms) first.homogeneous) in
       let sum : IsSumAt ring target (InSpan (matrix_of ring target rows)) earlier c.degree (row_combination ring (earlier ++ rows) c.terms) = record {
         first = row_combination ring rows (part_terms n end c.terms);
         coefficients = part_terms 0 n c.terms;

@@ -7,7 +7,7 @@ use Rattle.sf_algebra.specs.Multiples.{place_product}
 use Rattle.sf_algebra.specs.Rings.{Ring, IsRing}
 use Rattle.sf_algebra.specs.Terms.{Term}
 use Rattle.sf_algebra.specs.Vectors.{Place}
-use Rattle.sf_algebra.proofs.Monomials.Divisors.{product-cancel, same_exponents, same_monomial}
+use Rattle.sf_algebra.proofs.Monomials.Divisors.{product-cancel, exponents_equal, same_monomial}
 use Rattle.sf_algebra.proofs.Monomials.Products.{product-comm}
 use Rattle.sf_groebner.specs.Criterion.{lead_multiple, lcm_place, pair_place}
 use Rattle.sf_groebner.specs.Leads.{PlaceDivides}
@@ -23,14 +23,14 @@ cofactor lead j k = quotient (lead_multiple lead j).monomial (lcm (lead j.positi
 product-cofactor_first : (a b x y : Monomial) → product x a ≡ product y b
     → product (quotient (product x a) (lcm a b)) (quotient (lcm a b) a) ≡ x
 product-cofactor_first a b x y e =
-    let p = same_exponents (product x a) (product y b) e in
+    let p = exponents_equal (product x a) (product y b) e in
     same_monomial _ x (omega (arith, p.0)) (omega (arith, p.1)) (omega (arith, p.2)) (omega (arith, p.3))
     (omega (arith, p.4)) (omega (arith, p.5))
 
 product-cofactor_second : (a b x y : Monomial) → product x a ≡ product y b
     → product (quotient (product x a) (lcm a b)) (quotient (lcm b a) b) ≡ y
 product-cofactor_second a b x y e =
-    let p = same_exponents (product x a) (product y b) e in
+    let p = exponents_equal (product x a) (product y b) e in
     same_monomial _ y (omega (arith, p.0)) (omega (arith, p.1)) (omega (arith, p.2)) (omega (arith, p.3))
     (omega (arith, p.4)) (omega (arith, p.5))
 

@@ -6,7 +6,7 @@ use Rattle.sf_algebra.specs.MatrixOperations.{row_combination, part_terms, vecto
 use Rattle.sf_algebra.specs.Rings.{Ring, IsRing}
 use Rattle.sf_algebra.specs.Vectors.{Vector, IsVector}
 use Rattle.sf_algebra.proofs.Basics.Lists.{AllByRecursion-weaken}
-use Rattle.sf_algebra.proofs.GradedMatrices.MatrixRows.{IsWithin}
+use Rattle.sf_algebra.proofs.GradedMatrices.MatrixRows.{StandsWithin}
 use Rattle.sf_algebra.proofs.GradedMatrices.PartTerms.{IsVector-part_terms}
 use Rattle.sf_algebra.proofs.GradedMatrices.Ranges.{slice_range-second}
 use Rattle.sf_groebner.specs.Cuts.{first_parts, last_parts, IsFirstPart}
@@ -18,12 +18,12 @@ use Rattle.sf_groebner.proofs.Spanning.SameModules.{IsReducedBasis-same}
 use Rattle.sf_groebner.proofs.Spanning.Spans.{span_module}
 
 pub IsWithin-IsVector : (ring : Ring) (degrees : List ℤ) (v : Vector) → IsVector ring degrees v
-    → IsWithin (length degrees) v.terms
+    → StandsWithin (length degrees) v.terms
 IsWithin-IsVector ring degrees v h = AllByRecursion-weaken _ _ (λ t e. e.0) v.terms h.homogeneous
 
-pub IsWithin-coefficients : (m : Matrix) (c : Vector) → IsCoefficients m c → IsWithin (length m.rows) c.terms
+pub IsWithin-coefficients : (m : Matrix) (c : Vector) → IsCoefficients m c → StandsWithin (length m.rows) c.terms
 IsWithin-coefficients m c h =
-    subst (λ n. IsWithin n c.terms) (length-map m.rows (λ (v : Vector). v.degree))
+    subst (λ n. StandsWithin n c.terms) (length-map m.rows (λ (v : Vector). v.degree))
     (IsWithin-IsVector m.ring (row_degrees m) c h)
 
 module _ (m : Matrix) where

@@ -11,7 +11,7 @@ use Rattle.sf_algebra.specs.Rings.{Ring, Weights}
 use Rattle.sf_algebra.specs.Terms.{Term, IsDescending, IsCanonical}
 use Rattle.sf_algebra.specs.Vectors.{Place, place_cmp, IsTermOfDegree, IsHomogeneous, IsVector, IsCanonicalRow}
 use Rattle.sf_algebra.proofs.Basics.Lists.{AllByRecursion-append, AllByRecursion-weaken}
-use Rattle.sf_algebra.proofs.GradedMatrices.MatrixRows.{IsWithin}
+use Rattle.sf_algebra.proofs.GradedMatrices.MatrixRows.{StandsWithin}
 use Rattle.sf_algebra.proofs.GradedMatrices.PartTerms.{part_terms-append, part_terms-inside, part_terms-outside, part_terms-whole}
 use Rattle.sf_algebra.proofs.Tensors.KroneckerUnits.{IsCanonical-moved}
 use Rattle.sf_algebra.proofs.Vectors.Positions.{place_cmp-later}
@@ -25,7 +25,7 @@ moved_past : (n : ℕ) (vs : List (Term Place)) → AllByRecursion (λ t. n ≤ 
 moved_past n [] = tt
 moved_past n (v ∷ vs) = (omega arith, moved_past n vs)
 
-part_terms-moved : (n k : ℕ) (vs : List (Term Place)) → IsWithin k vs → part_terms n (n + k) (moved n vs) ≡ vs
+part_terms-moved : (n k : ℕ) (vs : List (Term Place)) → StandsWithin k vs → part_terms n (n + k) (moved n vs) ≡ vs
 part_terms-moved n k [] h = refl
 part_terms-moved n k (v ∷ vs) h =
     let within : v.at.position < k = h.0 in
@@ -36,14 +36,14 @@ part_terms-moved n k (v ∷ vs) h =
     ∙ (λ i. record { at = record { position = back i; monomial = v.at.monomial }; coefficient = v.coefficient } ∷ part_terms-moved n k vs h.1 i)
 
 -- the first part of a pair, and the last
-pub part_terms-pair_first : (n : ℕ) (us vs : List (Term Place)) → IsWithin n us
+pub part_terms-pair_first : (n : ℕ) (us vs : List (Term Place)) → StandsWithin n us
     → part_terms 0 n (paired_terms n us vs) ≡ us
 part_terms-pair_first n us vs h =
     part_terms-append 0 n us (moved n vs)
     ∙ (λ i. part_terms-whole n us h i ++ part_terms-past n (moved n vs) (moved_past n vs) i)
     ∙ append-nil us
 
-pub part_terms-pair_last : (n k : ℕ) (us vs : List (Term Place)) → IsWithin n us → IsWithin k vs
+pub part_terms-pair_last : (n k : ℕ) (us vs : List (Term Place)) → StandsWithin n us → StandsWithin k vs
     → part_terms n (n + k) (paired_terms n us vs) ≡ vs
 part_terms-pair_last n k us vs h l =
     part_terms-append n (n + k) us (moved n vs)
@@ -57,7 +57,7 @@ IsDescending-append weights [] vs h k below = k
 IsDescending-append weights (u ∷ us) vs h k below =
     (AllByRecursion-append _ us vs h.0 below.0, IsDescending-append weights us vs h.1 k below.1)
 
-pub IsCanonical-pair : (ring : Ring) (n : ℕ) (us vs : List (Term Place)) → IsWithin n us → IsCanonicalRow ring us
+pub IsCanonical-pair : (ring : Ring) (n : ℕ) (us vs : List (Term Place)) → StandsWithin n us → IsCanonicalRow ring us
     → IsCanonicalRow ring vs → IsCanonicalRow ring (paired_terms n us vs)
 IsCanonical-pair ring n us vs within h k =
     let shifted = IsCanonical-moved ring n vs k in
@@ -108,7 +108,7 @@ module _ (target source : List ℤ) (d : ℤ) where
 
 -- each vector over both is a pair of its parts
 pub paired_terms-parts : (weights : Weights) (n k : ℕ) (ts : List (Term Place)) → IsDescending (place_cmp weights) ts
-    → IsWithin (n + k) ts → paired_terms n (part_terms 0 n ts) (part_terms n (n + k) ts) ≡ ts
+    → StandsWithin (n + k) ts → paired_terms n (part_terms 0 n ts) (part_terms n (n + k) ts) ≡ ts
 paired_terms-parts weights n k [] h within = refl
 paired_terms-parts weights n k (t ∷ ts) h within =
     let inside : t.at.position < n + k = within.0 in

@@ -7,7 +7,7 @@ use Rattle.sf_algebra.specs.Rings.{IsRing}
 use Rattle.sf_algebra.specs.Sums.{add}
 use Rattle.sf_algebra.specs.VectorOperations.{row_sum}
 use Rattle.sf_algebra.specs.Vectors.{Vector, place_cmp, IsVector}
-use Rattle.sf_algebra.proofs.GradedMatrices.MatrixRows.{IsWithin}
+use Rattle.sf_algebra.proofs.GradedMatrices.MatrixRows.{StandsWithin}
 use Rattle.sf_algebra.proofs.GradedMatrices.PartTerms.{IsVector-part_terms}
 use Rattle.sf_algebra.proofs.GradedMatrices.Ranges.{slice_range-first, slice_range-second}
 use Rattle.sf_algebra.proofs.GradedMatrices.Stacks.{row_degrees-stacked}
@@ -50,8 +50,8 @@ module _ (a b : Matrix) where
         (row_combination a.ring b.rows (part_terms (length a.rows) (length a.rows + length b.rows) c.terms))
         ≡ row_combination a.ring (a.rows ++ b.rows) c.terms
     row_combination-blocks c h =
-        let within : IsWithin (length a.rows + length b.rows) c.terms =
-        subst (λ n. IsWithin n c.terms) (let size : length (a.rows ++ b.rows) ≡ length a.rows + length b.rows = rw length-append refl in size) (IsWithin-coefficients (stacked a b) c h) in
+        let within : StandsWithin (length a.rows + length b.rows) c.terms =
+        subst (λ n. StandsWithin n c.terms) (let size : length (a.rows ++ b.rows) ≡ length a.rows + length b.rows = rw length-append refl in size) (IsWithin-coefficients (stacked a b) c h) in
         sym (row_combination-stacked a.ring positive.modulus a.rows b.rows (part_terms 0 (length a.rows) c.terms) (part_terms (length a.rows) (length a.rows + length b.rows) c.terms)
         (IsWithin-coefficients a (vector_part 0 (length a.rows) c) (first_coefficients c h)))
         ∙ ap (row_combination a.ring (a.rows ++ b.rows))

@@ -11,7 +11,7 @@ use Rattle.sf_algebra.specs.VectorOperations.{row_sum}
 use Rattle.sf_algebra.specs.Vectors.{Place, place_cmp, IsCanonicalRow}
 use Rattle.sf_algebra.proofs.Arithmetic.Residues.{product_mod-one, sum_mod-zero}
 use Rattle.sf_algebra.proofs.Basics.Lists.{AllByRecursion-weaken}
-use Rattle.sf_algebra.proofs.GradedMatrices.MatrixRows.{IsWithin}
+use Rattle.sf_algebra.proofs.GradedMatrices.MatrixRows.{StandsWithin}
 use Rattle.sf_algebra.proofs.Monomials.Orders.{place_cmp_linear}
 use Rattle.sf_algebra.proofs.Monomials.Products.{product-comm, product-one_first}
 use Rattle.sf_algebra.proofs.Multiplying.CombinationLaws.{combination-same}
@@ -33,7 +33,7 @@ add-canonical_append ring positive us vs h =
 
 -- unit rows that begin at position n move coefficients by n
 pub row_combination-unit_rows_from : (ring : Ring) → IsRing ring → (n : ℕ) (ds : List ℤ) (c : List (Term Place))
-    → IsCanonicalRow ring c → IsWithin (length ds) c → row_combination ring (unit_rows n ds) c ≡ moved n c
+    → IsCanonicalRow ring c → StandsWithin (length ds) c → row_combination ring (unit_rows n ds) c ≡ moved n c
 row_combination-unit_rows_from ring positive n ds c canonical within =
     combination-same (place_keys ring.weights) ring.modulus positive.modulus (λ k. k.monomial)
     (λ k. row_at (unit_rows n ds) k.position) c (moved n c) (IsCanonical-moved ring n c canonical)
@@ -65,7 +65,7 @@ row_combination-unit_rows_from ring positive n ds c canonical within =
 
 -- a vector is the sum of its terms at the first n positions and of those behind them
 pub add-parts : (ring : Ring) → IsRing ring → (n k : ℕ) (ts : List (Term Place)) → IsCanonicalRow ring ts
-    → IsWithin (n + k) ts → row_sum ring (part_terms 0 n ts) (moved n (part_terms n (n + k) ts)) ≡ ts
+    → StandsWithin (n + k) ts → row_sum ring (part_terms 0 n ts) (moved n (part_terms n (n + k) ts)) ≡ ts
 add-parts ring positive n k ts canonical within =
     let parts = paired_terms-parts ring.weights n k ts canonical.descending within in
     add-canonical_append ring positive (part_terms 0 n ts) (moved n (part_terms n (n + k) ts))

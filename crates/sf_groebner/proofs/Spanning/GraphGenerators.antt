@@ -12,7 +12,7 @@ use Rattle.sf_algebra.specs.VectorOperations.{row_sum}
 use Rattle.sf_algebra.specs.Vectors.{Place, Vector, place_cmp, IsHomogeneous, IsVector, IsCanonicalRow}
 use Rattle.sf_algebra.proofs.Basics.Lists.{AllByRecursion-weaken}
 use Rattle.sf_algebra.proofs.GradedMatrices.Identities.{IsMatrix-identity, degrees-unit_rows, length-unit_rows}
-use Rattle.sf_algebra.proofs.GradedMatrices.MatrixRows.{IsWithin, with_terms}
+use Rattle.sf_algebra.proofs.GradedMatrices.MatrixRows.{StandsWithin, with_terms}
 use Rattle.sf_algebra.proofs.GradedMatrices.ProductParts.{part_terms-row_combination}
 use Rattle.sf_algebra.proofs.GradedMatrices.Stacks.{AllByRecursion-map, degrees-with_terms, with_terms-each, with_terms-with_terms}
 use Rattle.sf_algebra.proofs.Monomials.Orders.{place_cmp_linear}
@@ -99,7 +99,7 @@ module _ (m : Matrix) (positive : IsRing m.ring) (above : 1 < m.ring.modulus) (m
             (unit_rows n (row_degrees m)) row_at-graph_rows c
             ∙ (λ i. row_sum ring (sym h.value i) (row_combination-unit_rows_from ring positive n (row_degrees m) c vector.canonical (AllByRecursion-weaken _ _ (λ t k. k.0) c vector.homogeneous) i))
             ∙ add-parts ring positive n (length m.rows) w.terms h.vector.canonical
-            (subst (λ l. IsWithin l w.terms) (length-graph_degrees m) (AllByRecursion-weaken _ _ (λ t k. k.0) w.terms h.vector.homogeneous));
+            (subst (λ l. StandsWithin l w.terms) (length-graph_degrees m) (AllByRecursion-weaken _ _ (λ t k. k.0) w.terms h.vector.homogeneous));
       }
 
   pub graph_generators : AreGenerators m.ring (IsGraphVector m) graph_rows

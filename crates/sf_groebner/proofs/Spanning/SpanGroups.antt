@@ -14,7 +14,7 @@ use Rattle.sf_algebra.proofs.Operators.Subgroups.{Whole-sub, ImageOf-sub, Preima
 use Rattle.sf_algebra.proofs.Vectors.DegreeParts.{IsHomogeneous-degree_part}
 use Rattle.sf_algebra.proofs.Vectors.HomogeneousVectors.{row_combination-IsVector}
 use Rattle.sf_algebra.proofs.Vectors.VectorGroups.{SpanOf, vectors_of_degree, coefficients_of_degree, values_of_degree, combined_matrix, combined_matrix-map}
-use Rattle.sf_algebra.proofs.Vectors.VectorProps.{same_canonical, same_vector}
+use Rattle.sf_algebra.proofs.Vectors.VectorProps.{same_canonical, vector_unique}
 use Rattle.sf_groebner.specs.Presentations.{IsRelation}
 use Rattle.sf_groebner.specs.Spans.{InSpan, IsSyzygy}
 
@@ -38,7 +38,7 @@ module _ (m : Matrix) (positive : IsRing m.ring) (d : ℤ) where
         let degree : (h.coefficients).degree ≡ d = ap (λ (w : Vector). w.degree) h.value in
         let c =
         subst (λ e. IsVector m.ring (row_degrees m) (record { degree = e; terms = (h.coefficients).terms })) degree h.homogeneous in
-        (((h.coefficients).terms, c), tt, same_vector m.ring m.target d _ v (ap (λ (w : Vector). w.terms) h.value))
+        (((h.coefficients).terms, c), tt, vector_unique m.ring m.target d _ v (ap (λ (w : Vector). w.terms) h.value))
 
     pub image-InSpan : IsWithin (ImageOf (combined_matrix m positive.modulus d is_matrix) Whole) (of_values (InSpan m))
     image-InSpan v h = record {
@@ -61,7 +61,7 @@ module _ (m : Matrix) (positive : IsRing m.ring) (d : ℤ) where
         same-sub (coefficients_of_degree m positive.modulus d)
         (KernelOf (values_of_degree m positive.modulus d) (combined_matrix m positive.modulus d is_matrix))
         (of_coefficients (IsSyzygy m))
-        (λ c h. record { coefficients = c.1; zero = λ i. (h i).0 }) (λ c h. same_vector m.ring m.target d _ _ h.zero)
+        (λ c h. record { coefficients = c.1; zero = λ i. (h i).0 }) (λ c h. vector_unique m.ring m.target d _ _ h.zero)
         (KernelOf-sub (coefficients_of_degree m positive.modulus d) (values_of_degree m positive.modulus d) (combined_matrix m positive.modulus d is_matrix) (combined_matrix-map m positive.modulus d is_matrix))
 
     module _ (B : Vector → Type 0) (sub : IsSub (values_of_degree m positive.modulus d) (of_values B)) where

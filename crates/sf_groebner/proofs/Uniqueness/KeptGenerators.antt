@@ -8,7 +8,7 @@ use Rattle.sf_algebra.specs.Sums.{add}
 use Rattle.sf_algebra.specs.Terms.{Term}
 use Rattle.sf_algebra.specs.VectorOperations.{row_sum}
 use Rattle.sf_algebra.specs.Vectors.{Place, Vector, place_cmp, IsVector}
-use Rattle.sf_algebra.proofs.GradedMatrices.MatrixRows.{IsWithin}
+use Rattle.sf_algebra.proofs.GradedMatrices.MatrixRows.{StandsWithin}
 use Rattle.sf_algebra.proofs.GradedMatrices.PartTerms.{IsVector-part_terms}
 use Rattle.sf_algebra.proofs.GradedMatrices.Ranges.{slice_range-first, slice_range-second}
 use Rattle.sf_algebra.proofs.Monomials.Orders.{place_cmp_linear}
@@ -105,8 +105,8 @@ module _ (ring : Ring) (target : List ℤ) (B : Vector → Type 0) where
           let n = length rows in
           let w : Vector = record { degree = d; terms = c } in
           let size : length (rows ++ v ∷ []) ≡ n + 1 = rw length-append refl in
-          let within : IsWithin (n + 1) c =
-          subst (λ k. IsWithin k c) size (IsWithin-coefficients (matrix_of ring target (rows ++ v ∷ [])) w h) in
+          let within : StandsWithin (n + 1) c =
+          subst (λ k. StandsWithin k c) size (IsWithin-coefficients (matrix_of ring target (rows ++ v ∷ [])) w h) in
           let vector : IsVector ring (degrees_of rows ++ v.degree ∷ []) w = subst (λ ds. IsVector ring ds w) pushed-degrees h in
           let front = subst (λ ds. IsVector ring ds (record { degree = d; terms = part_terms 0 n c }))
           (slice_range-first (degrees_of rows) (v.degree ∷ []) n (length-map rows (λ (x : Vector). x.degree)))

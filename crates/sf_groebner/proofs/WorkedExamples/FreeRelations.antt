@@ -5,7 +5,7 @@ use Rattle.sf_algebra.specs.MatrixOperations.{row_combination}
 use Rattle.sf_algebra.specs.Rings.{Ring, IsRing}
 use Rattle.sf_algebra.specs.Terms.{Term}
 use Rattle.sf_algebra.specs.Vectors.{Place, Vector}
-use Rattle.sf_algebra.proofs.GradedMatrices.MatrixRows.{IsWithin}
+use Rattle.sf_algebra.proofs.GradedMatrices.MatrixRows.{StandsWithin}
 use Rattle.sf_algebra.proofs.GradedMatrices.ProductParts.{combination-no_rows}
 use Rattle.sf_algebra.proofs.Multiplying.Keys.{place_keys}
 use Rattle.sf_groebner.specs.MinimalGenerators.{matrix_of}
@@ -24,7 +24,7 @@ pub span-no_rows : (ring : Ring) → IsRing ring → (target : List ℤ) (v : Ve
 span-no_rows ring positive target v h =
     sym (ap (λ (w : Vector). w.terms) h.value) ∙ row_combination-no_rows ring positive h.coefficients.terms
 
-no_lead : (ts : List (Term Place)) → IsWithin 0 ts → HasDividedLead [] ts
+no_lead : (ts : List (Term Place)) → StandsWithin 0 ts → HasDividedLead [] ts
 no_lead [] h = tt
 no_lead (t ∷ ts) h = absurd (omega (arith, h.0))
 

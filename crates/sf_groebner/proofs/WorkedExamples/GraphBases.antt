@@ -8,7 +8,7 @@ use Rattle.sf_algebra.specs.Rings.{IsRing}
 use Rattle.sf_algebra.specs.Terms.{Term}
 use Rattle.sf_algebra.specs.Vectors.{Place, Vector, IsVector}
 use Rattle.sf_algebra.proofs.Basics.Lists.{AllByRecursion-front, AllByRecursion-weaken}
-use Rattle.sf_algebra.proofs.GradedMatrices.MatrixRows.{with_terms, IsWithin}
+use Rattle.sf_algebra.proofs.GradedMatrices.MatrixRows.{with_terms, StandsWithin}
 use Rattle.sf_algebra.proofs.GradedMatrices.ProductParts.{part_terms-row_combination}
 use Rattle.sf_algebra.proofs.GradedMatrices.Stacks.{degrees-with_terms}
 use Rattle.sf_algebra.proofs.Vectors.HomogeneousVectors.{IsVector-row_combination}
@@ -62,9 +62,9 @@ module _ (m : Matrix) (positive : IsRing m.ring) (rows more : List Vector) (h : 
         IsVector-row_combination over_graph positive.modulus IsMatrix-over_graph
         (record { degree = w.degree; terms = own }) IsCoefficients-over_graph
 
-    within : (v : Vector) → IsVector m.ring (graph_degrees m) v → IsWithin (length m.target + length m.rows) v.terms
+    within : (v : Vector) → IsVector m.ring (graph_degrees m) v → StandsWithin (length m.target + length m.rows) v.terms
     within v k =
-        subst (λ n. IsWithin n v.terms) (length-graph_degrees m) (IsWithin-IsVector m.ring (graph_degrees m) v k)
+        subst (λ n. StandsWithin n v.terms) (length-graph_degrees m) (IsWithin-IsVector m.ring (graph_degrees m) v k)
 
     value_terms-combination : value_terms m combination ≡ value_terms m w.terms
     value_terms-combination =

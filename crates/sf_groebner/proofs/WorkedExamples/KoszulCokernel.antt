@@ -6,7 +6,7 @@ use Rattle.sf_algebra.specs.Rings.{plain, ones}
 use Rattle.sf_algebra.specs.Sums.{add}
 use Rattle.sf_algebra.specs.Terms.{Term}
 use Rattle.sf_algebra.specs.Vectors.{Place, Vector, IsVector, place_cmp}
-use Rattle.sf_algebra.proofs.GradedMatrices.MatrixRows.{IsWithin}
+use Rattle.sf_algebra.proofs.GradedMatrices.MatrixRows.{StandsWithin}
 use Rattle.sf_algebra.proofs.Monomials.Orders.{place_cmp_linear}
 use Rattle.sf_algebra.proofs.Terms.Sums.{add-nil}
 use Rattle.sf_algebra.proofs.Vectors.HomogeneousVectors.{row_combination-identity}
@@ -31,7 +31,7 @@ abbrev unit_row : Vector
 unit_row = unit_vector (pos 0) 0
 
 -- it divides each lead at the one position
-unit_divides : (ts : List (Term Place)) → IsWithin 1 ts → HasDividedLead (unit_row ∷ []) ts
+unit_divides : (ts : List (Term Place)) → StandsWithin 1 ts → HasDividedLead (unit_row ∷ []) ts
 unit_divides [] h = tt
 unit_divides (t ∷ ts) h =
     let first : t.at.position < 1 = h.0 in
