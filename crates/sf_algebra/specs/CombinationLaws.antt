@@ -1,17 +1,16 @@
--- What holds of the combination c M of the rows of a matrix M with the coefficients c: matrices act on row vectors from the
--- right, additively in both and associatively. (Any textbook of linear algebra; homalg's convention.)
-use Rattle.std.specs.Prelude.{◌≡◌, if◌then◌else◌, ℕ, suc, ◌<◌, List, [], ◌∷◌, ◌++◌, length, ℤ}
+-- What holds of the combination c M of the rows of a matrix M with the coefficients c: matrices act on row vectors from
+-- the right, additively in both and associatively. (Any textbook of linear algebra; homalg's convention.)
+use Rattle.std.specs.Prelude.{◌≡◌, if◌then◌else◌, ℕ, ◌<◌, List, [], ◌∷◌, ◌++◌, length, ℤ}
 use Rattle.std.specs.List.{AllByRecursion}
 use Rattle.std.specs.Ordering.{is_eq}
 use Rattle.sf_algebra.specs.Matrices.{Matrix, IsMatrix}
 use Rattle.sf_algebra.specs.MatrixOperations.{row_at, row_combination, unit_vector, unit_rows, matrix_product, negated, moved, entry_products}
-use Rattle.sf_algebra.specs.Monomials.{Monomial, monomial_cmp}
-use Rattle.sf_algebra.specs.Multiples.{place_product, multiple, negative}
-use Rattle.sf_algebra.specs.Polynomials.{polynomial_product}
+use Rattle.sf_algebra.specs.Monomials.{Monomial}
+use Rattle.sf_algebra.specs.Multiples.{place_product, negative}
 use Rattle.sf_algebra.specs.Residues.{product_mod}
 use Rattle.sf_algebra.specs.Rings.{Ring}
-use Rattle.sf_algebra.specs.Sums.{add, total, coefficient_at}
-use Rattle.sf_algebra.specs.Terms.{Term, IsCanonical}
+use Rattle.sf_algebra.specs.Sums.{total, coefficient_at}
+use Rattle.sf_algebra.specs.Terms.{Term}
 use Rattle.sf_algebra.specs.VectorOperations.{row_sum, row_multiple}
 use Rattle.sf_algebra.specs.Vectors.{Place, Vector, place_cmp, entry, IsCanonicalRow}
 
@@ -26,7 +25,8 @@ abbrev pub combination_part : Ring → Place → Term Place → Term Place → �
 combination_part ring k t u =
     if is_eq (place_cmp ring.weights (place_product t.at.monomial u.at) k) then product_mod ring.modulus t.coefficient u.coefficient else 0
 
--- the coefficient of c M at k is the sum, over the terms of c and of their rows whose product stands at k, of the products of their coefficients
+-- the coefficient of c M at k is the sum, over the terms of c and of their rows whose product stands at k, of the
+-- products of their coefficients
 abbrev pub SumsProductsWithRows : Type 0
 SumsProductsWithRows =
     (ring : Ring) (rows : List Vector) (c : List (Term Place)) (k : Place)

@@ -1,5 +1,5 @@
--- What holds of the degrees of monomials by weights. (Cox, Little, O'Shea, "Using Algebraic Geometry", chapter 6, section 4, on
--- graded rings; any textbook.)
+-- What holds of the degrees of monomials by weights. (Kreuzer, Robbiano, "Computational Commutative Algebra 2", section
+-- 4.1: gradings.)
 use Rattle.std.specs.Prelude.{◌≡◌, ℕ, ◌+◌, ◌<◌, ◌≤◌}
 use Rattle.sf_algebra.specs.Monomials.{Monomial, VARIABLES, exponent_sum, monomial_degree, product, variable}
 use Rattle.sf_algebra.specs.Rings.{Weights, IsPositive, ones, weight}

@@ -1,5 +1,5 @@
--- Divisibility of monomials, quotients and least common multiples. (Cox, Little, O'Shea, "Ideals, Varieties, and Algorithms",
--- chapter 2, sections 4 and 6.)
+-- Divisibility of monomials, quotients and least common multiples. (Cox, Little, O'Shea, "Ideals, Varieties, and
+-- Algorithms", chapter 2, sections 4 and 6.)
 use Rattle.std.specs.Prelude.{◌-◌, ◌≤◌, max}
 use Rattle.sf_algebra.specs.Monomials.{Monomial}
 

@@ -1,5 +1,5 @@
--- What holds of divisors, quotients and least common multiples of monomials. (Cox, Little, O'Shea, "Ideals, Varieties, and
--- Algorithms", chapter 2, sections 4 and 6.)
+-- What holds of divisors, quotients and least common multiples of monomials. (Cox, Little, O'Shea, "Ideals, Varieties,
+-- and Algorithms", chapter 2, sections 4 and 6.)
 use Rattle.std.specs.Prelude.{◌≡◌, ◌≢◌, ◌↔◌, ◌+◌, ◌≤◌}
 use Rattle.std.specs.declared.cmp.Ordering.TheVariants.{Greater}
 use Rattle.sf_algebra.specs.Divisibility.{Divides, quotient, lcm}

@@ -1,5 +1,5 @@
--- Commutative groups on which operators act, their subgroups and maps, and equality modulo a subgroup. A subgroup is given by
--- the predicate that its elements meet. (Lang, "Algebra", chapters I and III.)
+-- Commutative groups on which operators act, their subgroups and maps, and equality modulo a subgroup. A subgroup is
+-- given by the predicate that its elements meet. (Lang, "Algebra", chapters I and III.)
 use Rattle.std.specs.Prelude.{◌≡◌}
 
 -- a commutative group, with operators R that act additively

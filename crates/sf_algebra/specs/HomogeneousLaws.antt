@@ -1,16 +1,15 @@
--- What holds of homogeneous vectors: sums, negatives, multiples and combinations are such vectors. (Any textbook of graded
--- modules.)
-use Rattle.std.specs.Prelude.{◌≡◌, ℕ, ◌<◌, List, ℤ, pos, ◌+ℤ◌}
+-- What holds of homogeneous vectors: sums, negatives, multiples and combinations are such vectors. (Any textbook of
+-- graded modules.)
+use Rattle.std.specs.Prelude.{◌≡◌, ◌<◌, List, ℤ, pos, ◌+ℤ◌}
 use Rattle.sf_algebra.specs.DegreeParts.{degree_part}
 use Rattle.sf_algebra.specs.Matrices.{Matrix, IsMatrix, row_degrees}
 use Rattle.sf_algebra.specs.MatrixOperations.{row_combination}
 use Rattle.sf_algebra.specs.Monomials.{Monomial, monomial_degree}
-use Rattle.sf_algebra.specs.Multiples.{place_product, multiple, negative}
+use Rattle.sf_algebra.specs.Multiples.{negative}
 use Rattle.sf_algebra.specs.Rings.{Ring}
-use Rattle.sf_algebra.specs.Sums.{add}
 use Rattle.sf_algebra.specs.Terms.{Term}
 use Rattle.sf_algebra.specs.VectorOperations.{row_sum, row_multiple}
-use Rattle.sf_algebra.specs.Vectors.{Place, Vector, place_cmp, IsVector, IsCanonicalRow}
+use Rattle.sf_algebra.specs.Vectors.{Place, Vector, IsVector, IsCanonicalRow}
 
 -- the sum of two vectors of one degree
 abbrev pub HasHomogeneousSums : Type 0

@@ -1,4 +1,5 @@
--- What holds of the Kronecker product of graded matrices: the tensor product of the maps. (Any textbook of linear algebra.)
+-- What holds of the Kronecker product of graded matrices: the tensor product of the maps. (Any textbook of linear
+-- algebra.)
 use Rattle.std.specs.Prelude.{◌≡◌, ◌==◌, if◌then◌else◌, ℕ, ◌+◌, ◌*◌, ◌<◌, List, [], ◌∷◌, length, ℤ, pos}
 use Rattle.sf_algebra.specs.Matrices.{Matrix, row_degrees, IsMatrix}
 use Rattle.sf_algebra.specs.MatrixOperations.{row_at, identity, stacked, matrix_product, negated, transposed, moved, degree_sums, kronecker, IsComposable}

@@ -1,6 +1,6 @@
 -- Graded matrices: rows are homogeneous vectors over one free module. (homalg's convention: a matrix acts on row vectors
 -- from the right, and the rows of a presentation matrix are its relations.)
-use Rattle.std.specs.Prelude.{ℕ, List, map, ℤ}
+use Rattle.std.specs.Prelude.{List, map, ℤ}
 use Rattle.std.specs.List.{AllByRecursion}
 use Rattle.sf_algebra.specs.Rings.{Ring}
 use Rattle.sf_algebra.specs.Vectors.{Vector, IsVector}

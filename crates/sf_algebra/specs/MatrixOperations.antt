@@ -19,7 +19,8 @@ row_at (v ∷ vs) (suc i) = row_at vs i
 abbrev pub row_combination : Ring → List Vector → List (Term Place) → List (Term Place)
 row_combination ring rows c = combination (place_cmp ring.weights) place_product ring.modulus (λ k. k.monomial) (λ k. row_at rows k.position) c
 
--- the sum, over rows that stand from position i on, of the products of the entries of c at their positions and their entries at j
+-- the sum, over rows that stand from position i on, of the products of the entries of c at their positions and their
+-- entries at j
 abbrev pub entry_products : Ring → ℕ → List (Term Place) → ℕ → List Vector → List (Term Monomial)
 entry_products ring j c i [] = []
 entry_products ring j c i (v ∷ vs) =

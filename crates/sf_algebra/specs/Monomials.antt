@@ -1,5 +1,6 @@
--- Monomials in six variables, their degrees by weights, and their degree reverse lexicographic order. (Cox, Little, O'Shea, "Ideals, Varieties, and
--- Algorithms", chapter 2, section 2.) In a ring of fewer variables the exponents past its variables are 0.
+-- Monomials in six variables, their degrees by weights, and their degree reverse lexicographic order. (Cox, Little,
+-- O'Shea, "Ideals, Varieties, and Algorithms", chapter 2, section 2.) In a ring of fewer variables the exponents past
+-- its variables are 0.
 use Rattle.std.specs.Prelude.{ℕ, ◌+◌, ◌*◌, List, [], ◌∷◌, slice_index, slice_set, replicate}
 use Rattle.std.specs.declared.cmp.Ordering.{Ordering}
 use Rattle.std.specs.Ordering.{nat_cmp, on, flip_args, then_cmp}
@@ -52,7 +53,8 @@ exponent_sum a = a.e1 + a.e2 + a.e3 + a.e4 + a.e5 + a.e6
 abbrev pub monomial_degree : Weights → Monomial → ℕ
 monomial_degree weights a = weights.w1 * a.e1 + weights.w2 * a.e2 + weights.w3 * a.e3 + weights.w4 * a.e4 + weights.w5 * a.e5 + weights.w6 * a.e6
 
--- a greater degree is greater; at equal degrees, a is greater where the last exponent in which they differ is smaller in a
+-- a greater degree is greater; at equal degrees, a is greater where the last exponent in which they differ is smaller
+-- in a
 abbrev pub monomial_cmp : Weights → Monomial → Monomial → Ordering
 monomial_cmp weights =
     then_cmp (on (monomial_degree weights) nat_cmp)

@@ -1,5 +1,5 @@
--- What holds of multiples by terms of polynomials, in an order cmp of the places at which terms stand, on which the monomials
--- act. (Any textbook of algebra: the laws of a module.)
+-- What holds of multiples by terms of polynomials, in an order cmp of the places at which terms stand, on which the
+-- monomials act. (Any textbook of algebra: the laws of a module.)
 use Rattle.std.specs.Prelude.{◌≡◌, if◌then◌else◌, ℕ, ◌<◌, List, map}
 use Rattle.std.specs.declared.cmp.Ordering.{Ordering}
 use Rattle.std.specs.Ordering.{is_eq}
@@ -15,7 +15,8 @@ abbrev pub HasCanonicalMultiples : {K : Type 0} → (K → K → Ordering) → (
 HasCanonicalMultiples {K} cmp act =
     (p : ℕ) → 0 < p → (s : Term Monomial) (us : List (Term K)) → IsCanonical cmp p (multiple cmp act p s us)
 
--- the coefficient of a multiple at k: the sum of the products of the coefficients, over the terms whose product stands at k
+-- the coefficient of a multiple at k: the sum of the products of the coefficients, over the terms whose product stands
+-- at k
 abbrev pub MultipliesCoefficients : {K : Type 0} → (K → K → Ordering) → (Monomial → K → K) → Type 0
 MultipliesCoefficients {K} cmp act =
     (p : ℕ) (s : Term Monomial) (us : List (Term K)) (k : K)

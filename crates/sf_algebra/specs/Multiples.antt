@@ -1,5 +1,6 @@
--- Multiples of lists of terms by a term of a polynomial, negatives, and combinations. A monomial acts on that at which terms
--- stand: on monomials by the product, on the places of a free module by the product with their monomials. (Textbook.)
+-- Multiples of lists of terms by a term of a polynomial, negatives, and combinations. A monomial acts on that at which
+-- terms stand: on monomials by the product, on the places of a free module by the product with their monomials.
+-- (Textbook.)
 use Rattle.std.specs.Prelude.{ℕ, List, map}
 use Rattle.std.specs.declared.cmp.Ordering.{Ordering}
 use Rattle.std.specs.List.{flat_map}

@@ -1,4 +1,5 @@
--- What holds of the numbers of monomials and of places. (Knuth, "The Art of Computer Programming", volume 2, section 4.1.)
+-- What holds of the numbers of monomials and of places. (Knuth, "The Art of Computer Programming", volume 2, section
+-- 4.1.)
 use Rattle.std.specs.Prelude.{◌≡◌, ◌^◌, ◌<◌}
 use Rattle.std.specs.Ordering.{nat_cmp}
 use Rattle.sf_algebra.specs.Monomials.{Monomial, monomial_cmp}

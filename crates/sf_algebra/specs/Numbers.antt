@@ -1,5 +1,5 @@
--- Numbers in whose order monomials and places stand. Numbers with equally many digits compare by the first digit in which they
--- differ. (Knuth, "The Art of Computer Programming", volume 2, section 4.1, on positional number systems.)
+-- Numbers in whose order monomials and places stand. Numbers with equally many digits compare by the first digit in
+-- which they differ. (Knuth, "The Art of Computer Programming", volume 2, section 4.1, on positional number systems.)
 use Rattle.std.specs.Prelude.{ℕ, ◌+◌, ◌-◌, ◌*◌, ◌^◌, ◌<◌, ◌≤◌}
 use Rattle.sf_algebra.specs.Bounds.{GREATEST_SUM}
 use Rattle.sf_algebra.specs.Monomials.{Monomial, exponent_sum}

@@ -11,7 +11,8 @@ IsSmallerInLastDifference a b =
     (i : ℕ) × (i < VARIABLES) × (slice_index (exponents a) i < slice_index (exponents b) i)
     × ((j : ℕ) → i < j → j < VARIABLES → slice_index (exponents a) j ≡ slice_index (exponents b) j)
 
--- a is greater than b: its sum of exponents is, or the sums are equal and the last exponent in which they differ is smaller in a
+-- a is greater than b: its sum of exponents is, or the degrees are equal and the last exponent in which they differ is
+-- smaller in a
 abbrev pub IsGreater : Weights → Monomial → Monomial → Type 0
 IsGreater weights a b =
     (monomial_degree weights b < monomial_degree weights a) ⊎ ((monomial_degree weights a ≡ monomial_degree weights b) × IsSmallerInLastDifference a b)

@@ -1,6 +1,6 @@
--- Polynomials: canonical lists of terms at monomials. (Cox, Little, O'Shea, "Ideals, Varieties, and Algorithms", chapter 1,
--- section 1.)
-use Rattle.std.specs.Prelude.{ℕ, List}
+-- Polynomials: canonical lists of terms at monomials. (Cox, Little, O'Shea, "Ideals, Varieties, and Algorithms",
+-- chapter 1, section 1.)
+use Rattle.std.specs.Prelude.{List}
 use Rattle.sf_algebra.specs.Monomials.{Monomial, product, monomial_cmp}
 use Rattle.sf_algebra.specs.Multiples.{multiple, combination}
 use Rattle.sf_algebra.specs.Rings.{Ring}

@@ -1,4 +1,5 @@
--- How degrees, polynomials and matrices print. A name is the list of its bytes; names gives the ring's variables in order.
+-- How degrees, polynomials and matrices print. A name is the list of its bytes; names gives the ring's variables in
+-- order.
 use Rattle.std.specs.Prelude.{ℕ, zero, suc, ◌==◌, if◌then◌else◌, List, [], ◌∷◌, ◌++◌, length, map, ℤ, codes, decimal}
 use Rattle.std.specs.Fmt.{signed_decimal}
 use Rattle.std.specs.List.{join_with_byte, range_with_len}

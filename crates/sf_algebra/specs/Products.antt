@@ -1,4 +1,5 @@
--- What holds of the product of monomials. (Cox, Little, O'Shea, "Ideals, Varieties, and Algorithms", chapter 2, section 2.)
+-- What holds of the product of monomials. (Cox, Little, O'Shea, "Ideals, Varieties, and Algorithms", chapter 2, section
+-- 2.)
 use Rattle.std.specs.Prelude.{◌≡◌}
 use Rattle.sf_algebra.specs.Monomials.{Monomial, one, product, monomial_cmp}
 use Rattle.sf_algebra.specs.Rings.{Weights}

@@ -2,10 +2,10 @@
 use Rattle.std.specs.Prelude.{◌≡◌, if◌then◌else◌, ℕ, ◌<◌, List, [], ◌∷◌}
 use Rattle.std.specs.Ordering.{is_eq}
 use Rattle.sf_algebra.specs.Monomials.{Monomial, one, product, monomial_cmp}
-use Rattle.sf_algebra.specs.Polynomials.{polynomial_product}
+use Rattle.sf_algebra.specs.Polynomials.{polynomial_product, polynomial_sum}
 use Rattle.sf_algebra.specs.Residues.{product_mod}
 use Rattle.sf_algebra.specs.Rings.{Ring}
-use Rattle.sf_algebra.specs.Sums.{add, total, coefficient_at}
+use Rattle.sf_algebra.specs.Sums.{total, coefficient_at}
 use Rattle.sf_algebra.specs.Terms.{Term, IsCanonical}
 
 -- a product is canonical
@@ -19,7 +19,8 @@ abbrev pub product_part : Ring → Monomial → Term Monomial → Term Monomial 
 product_part ring k t s =
     if is_eq (monomial_cmp ring.weights (product t.at s.at) k) then product_mod ring.modulus t.coefficient s.coefficient else 0
 
--- the coefficient of u v at k is the sum, over the terms t of u and s of v whose product stands at k, of the products of their coefficients
+-- the coefficient of u v at k is the sum, over the terms t of u and s of v whose product stands at k, of the products
+-- of their coefficients
 abbrev pub SumsProductsOfCoefficients : Type 0
 SumsProductsOfCoefficients =
     (ring : Ring) (u v : List (Term Monomial)) (k : Monomial)
@@ -41,8 +42,8 @@ HasAssociativeProducts =
 abbrev pub DistributesOverSums : Type 0
 DistributesOverSums =
     (ring : Ring) → 0 < ring.modulus → (u v w : List (Term Monomial))
-    → polynomial_product ring (add (monomial_cmp ring.weights) ring.modulus u v) w
-    ≡ add (monomial_cmp ring.weights) ring.modulus (polynomial_product ring u w) (polynomial_product ring v w)
+    → polynomial_product ring (polynomial_sum ring u v) w
+    ≡ polynomial_sum ring (polynomial_product ring u w) (polynomial_product ring v w)
 
 -- the constant 1 is the one
 abbrev pub HasOne : Type 0

@@ -1,6 +1,6 @@
--- Polynomial rings over the residues modulo a number, whose variables have weights. (Cox, Little, O'Shea, "Using Algebraic
--- Geometry", chapter 5: graded rings; Kreuzer, Robbiano, "Computational Commutative Algebra 2", section 4.2, on weights.)
-use Rattle.std.specs.Prelude.{ℕ, ◌<◌, List, [], ◌∷◌, slice_index}
+-- Polynomial rings over the residues modulo a number, whose variables have weights. (Kreuzer, Robbiano, "Computational
+-- Commutative Algebra 2", section 4.1: gradings.)
+use Rattle.std.specs.Prelude.{ℕ, ◌<◌, [], ◌∷◌, slice_index}
 use Rattle.sf_algebra.specs.Primes.{IsPrime}
 
 -- the weight of each variable, the ring's first variable first; past the ring's variables it is 1

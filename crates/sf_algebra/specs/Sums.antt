@@ -1,5 +1,5 @@
--- Sums of terms in any order. The terms that stand at one place meet in one, whose coefficient is the sum of theirs modulo p;
--- a zero is left out. So a list of terms means a canonical list, which descends in the order cmp. (Textbook.)
+-- Sums of terms in any order. The terms that stand at one place meet in one, whose coefficient is the sum of theirs
+-- modulo p; a zero is left out. So a list of terms means a canonical list, which descends in the order cmp. (Textbook.)
 use Rattle.std.specs.Prelude.{ℕ, zero, suc, ◌%◌, if◌then◌else◌, List, [], ◌∷◌, ◌++◌, sum_by}
 use Rattle.std.specs.declared.cmp.Ordering.{Ordering}
 use Rattle.std.specs.Ordering.{is_eq, match_ordering}

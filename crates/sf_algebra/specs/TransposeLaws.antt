@@ -1,4 +1,5 @@
--- What holds of the transpose of a graded matrix, which goes between the dual free modules. (Any textbook of linear algebra.)
+-- What holds of the transpose of a graded matrix, which goes between the dual free modules. (Any textbook of linear
+-- algebra.)
 use Rattle.std.specs.Prelude.{◌≡◌, ℕ, ◌<◌, List, map, ℤ, neg_ℤ}
 use Rattle.sf_algebra.specs.Matrices.{Matrix, row_degrees, IsMatrix}
 use Rattle.sf_algebra.specs.MatrixOperations.{row_at, identity, matrix_product, transposed, IsComposable}

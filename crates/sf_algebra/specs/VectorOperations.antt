@@ -1,5 +1,5 @@
--- Sums, differences and multiples of vectors of a free module, as lists of terms, which are the rows of matrices, and with their
--- degrees. (Any textbook of algebra.)
+-- Sums, differences and multiples of vectors of a free module, as lists of terms, which are the rows of matrices, and
+-- with their degrees. (Any textbook of algebra.)
 use Rattle.std.specs.Prelude.{List, pos, ◌+ℤ◌}
 use Rattle.sf_algebra.specs.Monomials.{Monomial, monomial_degree}
 use Rattle.sf_algebra.specs.Multiples.{place_product, multiple, negative}

@@ -20,6 +20,6 @@ pub fn monomial_quotients()
 pub fn monomial_multiples()
     ensures common { IsCommonMultiple }
     ensures least { IsLeastMultiple }
-    ensures sum { HasGreaterDegree }
+    ensures degree { HasGreaterDegree }
     ensures bounded { HasBoundedDegree }
 {}

@@ -1,7 +1,7 @@
 ghost use Rattle.sf_algebra.specs.SizeLaws.{IsDecidedByRange};
 
 /// Whether the size of a matrix is within the bounds for which bases are computed is decided by its numbers of rows and
-/// columns, and the least and the greatest of its degrees.
+/// columns, and by bounds of its degrees, each of which is one of them or 0.
 pub fn sizes_are_decided()
     ensures { IsDecidedByRange }
 {}

@@ -1,10 +1,10 @@
--- What holds of the reduced bases of the modules of a matrix. (Cox, Little, O'Shea, "Using Algebraic Geometry", chapter 5, section 2.)
-use Rattle.std.specs.Prelude.{◌≡◌, ◌<◌, List}
+-- What holds of the reduced bases of the modules of a matrix. (Cox, Little, O'Shea, "Using Algebraic Geometry", chapter
+-- 5, section 2.)
+use Rattle.std.specs.Prelude.{◌≡◌, List}
 use Rattle.sf_algebra.specs.Matrices.{Matrix, IsMatrix}
 use Rattle.sf_algebra.specs.Rings.{IsRing}
 use Rattle.sf_algebra.specs.Vectors.{Vector}
-use Rattle.sf_groebner.specs.ReducedBases.{IsReducedBasis, IsSpanBasis, IsSyzygyBasis, IsGraphBasis}
-use Rattle.sf_groebner.specs.Spans.{InSpan, IsSyzygy, IsGraphVector}
+use Rattle.sf_groebner.specs.ReducedBases.{IsSpanBasis, IsSyzygyBasis, IsGraphBasis}
 
 -- the span has at most one reduced basis
 abbrev pub HasOneSpanBasis : Type 0

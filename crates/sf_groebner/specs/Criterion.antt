@@ -1,19 +1,20 @@
--- S-vectors of pairs of rows, and what it means that a pair reduces to zero. A row's lead is its first term; rows are those whose
--- lead has the coefficient 1. (Cox, Little, O'Shea, "Using Algebraic Geometry", chapter 5, sections 2 and 3.)
-use Rattle.std.specs.Prelude.{◌≡◌, ℕ, ◌<◌, List, [], ◌∷◌, length, ℤ, pos, ◌+ℤ◌, ◌≤ℤ◌}
+-- S-vectors of pairs of rows, and what it means that a pair reduces to zero. A row's lead is its first term; rows are
+-- those whose lead has the coefficient 1. (Cox, Little, O'Shea, "Using Algebraic Geometry", chapter 5, sections 2 and
+-- 3.)
+use Rattle.std.specs.Prelude.{◌≡◌, ℕ, ◌<◌, List, [], ◌∷◌, length, ℤ, ◌≤ℤ◌}
 use Rattle.std.specs.declared.cmp.Ordering.TheVariants.{Less}
 use Rattle.std.specs.List.{AllByRecursion}
 use Rattle.sf_algebra.specs.Divisibility.{quotient, lcm}
 use Rattle.sf_algebra.specs.Matrices.{Matrix}
 use Rattle.sf_algebra.specs.MatrixOperations.{row_at, row_combination}
-use Rattle.sf_algebra.specs.Monomials.{one, monomial_degree}
+use Rattle.sf_algebra.specs.Monomials.{one}
 use Rattle.sf_algebra.specs.Multiples.{place_product}
 use Rattle.sf_algebra.specs.Residues.{negative_mod}
 use Rattle.sf_algebra.specs.Rings.{Ring, Weights}
-use Rattle.sf_algebra.specs.Sums.{normal, add}
-use Rattle.sf_algebra.specs.Terms.{Term, IsCanonical}
+use Rattle.sf_algebra.specs.Sums.{normal}
+use Rattle.sf_algebra.specs.Terms.{Term}
 use Rattle.sf_algebra.specs.VectorOperations.{row_sum}
-use Rattle.sf_algebra.specs.Vectors.{Place, Vector, place_cmp, generator_degree, IsCanonicalRow, place_degree}
+use Rattle.sf_algebra.specs.Vectors.{Place, Vector, place_cmp, IsCanonicalRow, place_degree}
 use Rattle.sf_groebner.specs.ReducedBases.{IsMonic, HasDividedLead}
 
 -- where the first term of a list stands; at the first position with the monomial 1 where there is none
@@ -25,7 +26,7 @@ lead_place (t ∷ ts) = t.at
 abbrev pub lead_at : List Vector → ℕ → Place
 lead_at rows i = lead_place (row_at rows i)
 
--- the image of a coefficient's place, for the leads of the rows: its monomial times the lead of the row at its position
+-- the multiple of a lead for which a coefficient's place stands: its monomial times the lead of the row at its position
 abbrev pub lead_multiple : (ℕ → Place) → Place → Place
 lead_multiple lead k = place_product k.monomial (lead k.position)
 
@@ -33,7 +34,7 @@ lead_multiple lead k = place_product k.monomial (lead k.position)
 abbrev pub lcm_place : (ℕ → Place) → ℕ → ℕ → Place
 lcm_place lead i j = record { position = (lead i).position; monomial = lcm (lead i).monomial (lead j).monomial }
 
--- the coefficient's place at row i whose image is the least common multiple of the leads of rows i and j
+-- the coefficient's place at row i whose multiple of a lead is the least common multiple of the leads of rows i and j
 abbrev pub pair_place : (ℕ → Place) → ℕ → ℕ → Place
 pair_place lead i j = record {
   position = i;
@@ -52,11 +53,12 @@ s_vector ring rows i j = row_combination ring rows (s_coefficients ring.modulus 
 abbrev pub IsForRows : List Vector → Term Place → Type 0
 IsForRows rows t = t.at.position < length rows
 
--- a coefficient for one of the rows, whose image is less than b
+-- a coefficient for one of the rows, whose multiple of a lead is less than b
 abbrev pub HasMultipleBelow : Weights → List Vector → Place → Term Place → Type 0
 HasMultipleBelow weights rows b t = IsForRows rows t × (place_cmp weights (lead_multiple (lead_at rows) t.at) b ≡ Less)
 
--- the pair of rows i and j reduces to zero: its S-vector is a combination of rows whose images are less than the least common multiple
+-- the pair of rows i and j reduces to zero: its S-vector is a combination whose multiples of leads are less than the least
+-- common multiple
 pub record ReducesToZero (ring : Ring) (rows : List Vector) (i j : ℕ) : Type 0 where
   pub steps : List (Term Place)
   pub below : AllByRecursion (HasMultipleBelow ring.weights rows (lcm_place (lead_at rows) i j)) steps

@@ -1,5 +1,5 @@
--- What the pairs of rows decide: Buchberger's criterion, whole and up to a degree, the chain criterion, and Schreyer's theorem on
--- syzygies. (Cox, Little, O'Shea, "Using Algebraic Geometry", chapter 5, sections 2 and 3.)
+-- What the pairs of rows decide: Buchberger's criterion, whole and up to a degree, the chain criterion, and Schreyer's
+-- theorem on syzygies. (Cox, Little, O'Shea, "Using Algebraic Geometry", chapter 5, sections 2 and 3.)
 use Rattle.std.specs.Prelude.{◌≡◌, ◌↔◌, ℕ, ◌<◌, List, length, ℤ, ◌≤ℤ◌}
 use Rattle.std.specs.declared.cmp.Ordering.TheVariants.{Less}
 use Rattle.std.specs.List.{AllByRecursion}
@@ -7,8 +7,8 @@ use Rattle.sf_algebra.specs.Matrices.{Matrix, IsMatrix, row_degrees}
 use Rattle.sf_algebra.specs.MatrixOperations.{row_at, row_combination}
 use Rattle.sf_algebra.specs.Rings.{Ring, IsRing}
 use Rattle.sf_algebra.specs.Terms.{Term}
-use Rattle.sf_algebra.specs.Vectors.{Place, Vector, place_cmp, place_degree}
-use Rattle.sf_groebner.specs.Criterion.{HaveLeadsAtOnePosition, IsForRows, IsMonicRow, IsPairSyzygy, ReducesToZero, lcm_place, lead_at, s_vector, IsPair, IsGroebnerBasis, HasReducingPairs, HasDegreeUpTo}
+use Rattle.sf_algebra.specs.Vectors.{Place, Vector, place_cmp}
+use Rattle.sf_groebner.specs.Criterion.{HaveLeadsAtOnePosition, IsMonicRow, IsPairSyzygy, ReducesToZero, lcm_place, lead_at, s_vector, IsPair, IsGroebnerBasis, HasReducingPairs, HasDegreeUpTo}
 use Rattle.sf_groebner.specs.Leads.{PlaceDivides}
 use Rattle.sf_groebner.specs.ReducedBases.{HasDividedLead}
 use Rattle.sf_groebner.specs.Spans.{InSpan, IsCoefficients, IsSyzygy}
@@ -40,7 +40,8 @@ TakesEitherOrder =
     (ring : Ring) → IsRing ring → (rows : List Vector)
     (i j : ℕ) → HaveLeadsAtOnePosition rows i j → ReducesToZero ring rows i j → ReducesToZero ring rows j i
 
--- the chain criterion: a pair reduces to zero where the lead of a row divides its least common multiple, and its pairs with that row do
+-- the chain criterion: a pair reduces to zero where the lead of a row divides its least common multiple, and its pairs
+-- with that row do
 abbrev pub DropsChains : Type 0
 DropsChains =
     (ring : Ring) → IsRing ring → (rows : List Vector) (i j k : ℕ) → HaveLeadsAtOnePosition rows i k → PlaceDivides (lead_at rows j) (lcm_place (lead_at rows) i k)

@@ -1,6 +1,6 @@
--- What holds of the parts of reduced bases. (Cox, Little, O'Shea, "Using Algebraic Geometry", chapter 5, section 3: syzygies and
--- elimination of positions.)
-use Rattle.std.specs.Prelude.{◌≡◌, ◌↔◌, ◌<◌, ◌+◌, List, length}
+-- What holds of the parts of reduced bases. (Cox, Little, O'Shea, "Using Algebraic Geometry", chapter 5, section 3:
+-- syzygies and elimination of positions.)
+use Rattle.std.specs.Prelude.{◌≡◌, ◌↔◌, ◌+◌, List, length}
 use Rattle.std.specs.List.{AllByRecursion, filter}
 use Rattle.sf_algebra.specs.Matrices.{Matrix, IsMatrix}
 use Rattle.sf_algebra.specs.MatrixOperations.{stacked, vector_part}
@@ -10,7 +10,7 @@ use Rattle.sf_groebner.specs.Cuts.{has_first_part, first_parts, last_parts, IsFi
 use Rattle.sf_groebner.specs.Lifts.{IsLift}
 use Rattle.sf_groebner.specs.Presentations.{IsRelation}
 use Rattle.sf_groebner.specs.ReducedBases.{IsReducedBasis, IsSpanBasis, IsSyzygyBasis, IsGraphBasis}
-use Rattle.sf_groebner.specs.Spans.{InSpan, IsSyzygy, IsGraphVector}
+use Rattle.sf_groebner.specs.Spans.{InSpan, IsSyzygy}
 
 -- of the reduced basis of a graph, the value parts that aren't 0 are the reduced basis of the span
 abbrev pub HasSpanOfValues : Type 0
@@ -32,7 +32,8 @@ HasLiftsOfValues =
     (λ (w : Vector). IsLift m (vector_part 0 (length m.target) w) (vector_part (length m.target) (length m.target + length m.rows) w))
     (filter (has_first_part (length m.target)) basis)
 
--- of the reduced basis of the syzygies of a stack, the first blocks that aren't 0 are the reduced basis of all first blocks
+-- of the reduced basis of the syzygies of a stack, the first blocks that aren't 0 are the reduced basis of all first
+-- blocks
 abbrev pub HasBasisOfFirstBlocks : Type 0
 HasBasisOfFirstBlocks =
     (a b : Matrix) → IsRing a.ring → (basis : List Vector) → IsReducedBasis a.ring.weights

@@ -1,4 +1,5 @@
--- Parts of the vectors of a list, by position. (Textbook: since earlier positions are greater, the order eliminates them.)
+-- Parts of the vectors of a list, by position. (Textbook: since earlier positions are greater, the order eliminates
+-- them.)
 use Rattle.std.specs.Prelude.{◌≡◌, Bool, true, false, not, ℕ, List, [], ◌∷◌, length, map}
 use Rattle.std.specs.List.{filter}
 use Rattle.sf_algebra.specs.Matrices.{Matrix}

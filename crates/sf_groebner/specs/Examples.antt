@@ -1,15 +1,15 @@
--- Worked examples of the definitions, over the residues modulo 101; the first three variables are called x, y and z. (The examples
--- are this project's own.)
+-- Worked examples of the definitions, over the residues modulo 101; the first three variables are called x, y and z.
+-- (The examples are this project's own.)
 use Rattle.std.specs.Prelude.{◌≡◌, ℕ, List, [], ◌∷◌, ◌++◌, pos}
 use Rattle.sf_algebra.specs.Matrices.{Matrix, IsMatrix}
 use Rattle.sf_algebra.specs.Monomials.{from_exponents}
-use Rattle.sf_algebra.specs.Rings.{plain, ones}
+use Rattle.sf_algebra.specs.Rings.{plain}
 use Rattle.sf_algebra.specs.Terms.{Term}
 use Rattle.sf_algebra.specs.Vectors.{Place, Vector}
 use Rattle.sf_groebner.specs.Lifts.{IsLift}
-use Rattle.sf_groebner.specs.ReducedBases.{IsReducedBasis}
+use Rattle.sf_groebner.specs.ReducedBases.{IsGraphBasis, IsSpanBasis, IsSyzygyBasis}
 use Rattle.sf_groebner.specs.Small.{IsSmall, IsLarge}
-use Rattle.sf_groebner.specs.Spans.{IsCoefficients, combined, InSpan, IsSyzygy, IsGraphVector}
+use Rattle.sf_groebner.specs.Spans.{IsCoefficients, combined, IsSyzygy}
 
 -- a coefficient, at a position and the monomial with these exponents
 abbrev pub term : ℕ → ℕ → List ℕ → Term Place
@@ -65,13 +65,13 @@ abbrev pub IsQuadricsMatrix : Type 0
 IsQuadricsMatrix = IsMatrix quadrics
 
 abbrev pub HasQuadricsGraphBasis : Type 0
-HasQuadricsGraphBasis = IsReducedBasis ones (IsGraphVector quadrics) quadrics_graph_basis
+HasQuadricsGraphBasis = IsGraphBasis quadrics quadrics_graph_basis
 
 abbrev pub HasQuadricsBasis : Type 0
-HasQuadricsBasis = IsReducedBasis ones (InSpan quadrics) quadrics_basis
+HasQuadricsBasis = IsSpanBasis quadrics quadrics_basis
 
 abbrev pub HasQuadricsSyzygy : Type 0
-HasQuadricsSyzygy = IsReducedBasis ones (IsSyzygy quadrics) (quadrics_syzygy ∷ [])
+HasQuadricsSyzygy = IsSyzygyBasis quadrics (quadrics_syzygy ∷ [])
 
 abbrev pub HasThirdRowLift : Type 0
 HasThirdRowLift = IsLift quadrics third_row third_row_lift

@@ -1,21 +1,16 @@
--- What each graded matrix has modulo a prime: reduced bases, one answer for each limit, rests of divisions, and lifts. (Cox, Little,
--- O'Shea, "Using Algebraic Geometry", chapter 5, sections 2 and 3.)
-use Rattle.std.specs.Prelude.{◌≡◌, ◌↔◌, ℕ, ◌<◌, List, [], Option, Some, None, ℤ}
+-- What each graded matrix has modulo a prime: reduced bases, one answer for each limit, rests of divisions, and lifts.
+-- (Cox, Little, O'Shea, "Using Algebraic Geometry", chapter 5, sections 2 and 3.)
+use Rattle.std.specs.Prelude.{◌≡◌, ◌↔◌, ℕ, List, [], Option}
 use Rattle.sf_algebra.specs.Matrices.{Matrix, IsMatrix}
-use Rattle.sf_algebra.specs.MatrixOperations.{row_combination}
-use Rattle.sf_algebra.specs.Multiples.{negative}
-use Rattle.sf_algebra.specs.Primes.{IsPrime}
-use Rattle.sf_algebra.specs.Rings.{Ring, IsRing, IsOverField}
-use Rattle.sf_algebra.specs.Sums.{add}
-use Rattle.sf_algebra.specs.VectorOperations.{row_sum, vector_difference}
-use Rattle.sf_algebra.specs.Vectors.{Vector, place_cmp, IsVector}
+use Rattle.sf_algebra.specs.Rings.{IsRing, IsOverField}
+use Rattle.sf_algebra.specs.VectorOperations.{vector_difference}
+use Rattle.sf_algebra.specs.Vectors.{Vector, IsVector}
 use Rattle.sf_groebner.specs.Divisions.{IsDivision}
 use Rattle.sf_groebner.specs.Lifts.{IsLift}
-use Rattle.sf_groebner.specs.MinimalGenerators.{matrix_of}
 use Rattle.sf_groebner.specs.Presentations.{IsReducedByRelations}
-use Rattle.sf_groebner.specs.ReducedBases.{IsReducedBasis, IsReducedBy, IsSpanBasis, IsSyzygyBasis, IsGraphBasis}
-use Rattle.sf_groebner.specs.Small.{IsSmall, IsLarge, IsAnswer}
-use Rattle.sf_groebner.specs.Spans.{InSpan, IsCoefficients, IsGraphVector, IsSyzygy}
+use Rattle.sf_groebner.specs.ReducedBases.{IsSpanBasis, IsSyzygyBasis, IsGraphBasis}
+use Rattle.sf_groebner.specs.Small.{IsAnswer}
+use Rattle.sf_groebner.specs.Spans.{InSpan}
 
 -- the graph has a reduced basis
 abbrev pub HasGraphBasis : Type 0

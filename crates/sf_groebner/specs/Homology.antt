@@ -1,4 +1,5 @@
--- Kernel, image, cokernel and homology. (Weibel, "An Introduction to Homological Algebra", section 1.1; in homalg's convention.)
+-- Kernel, image, cokernel and homology. (Weibel, "An Introduction to Homological Algebra", section 1.1; in homalg's
+-- convention.)
 use Rattle.std.specs.Prelude.{◌≡◌, List, ℤ}
 use Rattle.sf_algebra.specs.Matrices.{Matrix, row_degrees, IsMatrix}
 use Rattle.sf_algebra.specs.MatrixOperations.{stacked}
@@ -7,8 +8,8 @@ use Rattle.sf_algebra.specs.Vectors.{Vector, IsVector}
 use Rattle.sf_groebner.specs.Presentations.{IsRelation, IsPresentation}
 use Rattle.sf_groebner.specs.Spans.{InSpan}
 
--- a place of a complex: the map that arrives at the module with the relations `here`, and the map out of it into the module with
--- the relations `beyond`
+-- a place of a complex: the map that arrives at the module with the relations `here`, and the map out of it into the
+-- module with the relations `beyond`
 pub record ComplexPlace : Type 0 where
   pub arriving : Matrix
   pub here : Matrix

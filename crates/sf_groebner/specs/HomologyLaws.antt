@@ -1,5 +1,5 @@
--- What maps of complexes and squares of maps do on homology, kernels, images and cokernels. (Weibel, "An Introduction to Homological
--- Algebra", section 1.1.)
+-- What maps of complexes and squares of maps do on homology, kernels, images and cokernels. (Weibel, "An Introduction
+-- to Homological Algebra", section 1.1.)
 use Rattle.std.specs.Prelude.{◌≡◌, ◌<◌}
 use Rattle.sf_algebra.specs.Matrices.{Matrix, row_degrees}
 use Rattle.sf_algebra.specs.MatrixOperations.{identity, stacked}

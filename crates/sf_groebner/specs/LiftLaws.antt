@@ -1,17 +1,13 @@
 -- What holds of lifts and of coordinates. (Textbook; the choice is this project's own.)
-use Rattle.std.specs.Prelude.{◌≡◌, ◌↔◌, ◌<◌, List, length}
-use Rattle.sf_algebra.specs.Matrices.{Matrix, row_degrees, IsMatrix}
+use Rattle.std.specs.Prelude.{◌≡◌, ◌↔◌, List, length}
+use Rattle.sf_algebra.specs.Matrices.{Matrix, IsMatrix}
 use Rattle.sf_algebra.specs.MatrixOperations.{part_terms, stacked, vector_part}
-use Rattle.sf_algebra.specs.Multiples.{negative}
-use Rattle.sf_algebra.specs.Primes.{IsPrime}
 use Rattle.sf_algebra.specs.Rings.{IsRing, IsOverField}
-use Rattle.sf_algebra.specs.Sums.{add}
 use Rattle.sf_algebra.specs.VectorOperations.{vector_difference}
-use Rattle.sf_algebra.specs.Vectors.{Vector, place_cmp, IsVector}
+use Rattle.sf_algebra.specs.Vectors.{Vector, IsVector}
 use Rattle.sf_groebner.specs.Cuts.{IsFirstBlock}
 use Rattle.sf_groebner.specs.Lifts.{IsLift}
-use Rattle.sf_groebner.specs.MinimalGenerators.{AreMinimal}
-use Rattle.sf_groebner.specs.Presentations.{IsZero, IsRelation, IsReducedByRelations, AreRelationsModulo}
+use Rattle.sf_groebner.specs.Presentations.{IsRelation, IsReducedByRelations, AreRelationsModulo}
 use Rattle.sf_groebner.specs.ReducedBases.{IsReducedBy, IsReducedBasis}
 use Rattle.sf_groebner.specs.Spans.{InSpan}
 

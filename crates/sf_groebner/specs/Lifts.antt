@@ -2,8 +2,8 @@
 use Rattle.std.specs.Prelude.{◌≡◌, List}
 use Rattle.sf_algebra.specs.Matrices.{Matrix}
 use Rattle.sf_algebra.specs.Vectors.{Vector}
-use Rattle.sf_groebner.specs.ReducedBases.{IsReducedBasis, IsReducedBy, IsSyzygyBasis}
-use Rattle.sf_groebner.specs.Spans.{IsCoefficients, IsSyzygy, combined}
+use Rattle.sf_groebner.specs.ReducedBases.{IsReducedBy, IsSyzygyBasis}
+use Rattle.sf_groebner.specs.Spans.{IsCoefficients, combined}
 
 -- c M = v, and no term of c is divided by a lead of the reduced basis of the syzygies
 pub record IsLift (m : Matrix) (v c : Vector) : Type 0 where

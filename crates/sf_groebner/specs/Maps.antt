@@ -1,5 +1,6 @@
--- Equality modulo a module, squares of maps that commute modulo relations, maps of complexes, and actions on classes. (Weibel, "An
--- Introduction to Homological Algebra", section 1.1: chain maps and their homology; in homalg's convention.)
+-- Equality modulo a module, squares of maps that commute modulo relations, maps of complexes, and actions on classes.
+-- (Weibel, "An Introduction to Homological Algebra", section 1.1: chain maps and their homology; in homalg's
+-- convention.)
 use Rattle.std.specs.Prelude.{◌≡◌}
 use Rattle.sf_algebra.specs.Matrices.{Matrix, row_degrees, IsMatrix}
 use Rattle.sf_algebra.specs.Rings.{Ring, IsRing}
@@ -21,8 +22,8 @@ pub record IsMapInto (relations map : Matrix) : Type 0 where
   pub ring : map.ring ≡ relations.ring
   pub target : map.target ≡ relations.target
 
--- a square that commutes modulo relations: `upper` and `lower` go from free modules into modules with relations; `left` is a map
--- of the free modules, `right` one of the modules with relations
+-- a square that commutes modulo relations: `upper` and `lower` go from free modules into modules with relations; `left`
+-- is a map of the free modules, `right` one of the modules with relations
 pub record IsSquare (upper upper_relations lower lower_relations left right : Matrix) : Type 0 where
   pub positive : IsRing right.ring
   pub upper_map : IsMapInto upper_relations upper
@@ -35,8 +36,8 @@ pub record IsSquare (upper upper_relations lower lower_relations left right : Ma
   pub commutes : (c : Vector) → IsCoefficients upper c
       → AreEqualModulo right.ring (InSpan lower_relations) (combined right (combined upper c)) (combined lower (combined left c))
 
--- maps of one complex into another about a place: both squares commute modulo relations. That two maps of a complex, one after
--- the other, give zero isn't asked.
+-- maps of one complex into another about a place: both squares commute modulo relations. That two maps of a complex,
+-- one after the other, give zero isn't asked.
 pub record AreChainMaps (a b : ComplexPlace) (first second third : Matrix) : Type 0 where
   pub before : IsSquare a.arriving a.here b.arriving b.here first second
   pub after : IsSquare a.out a.beyond b.out b.beyond second third

@@ -1,10 +1,9 @@
 -- What holds of minimal generators. (Textbook; the choice of the generators is this project's own.)
-use Rattle.std.specs.Prelude.{◌≡◌, ◌⊎◌, ◌↔◌, ℕ, ◌<◌, List, [], ◌∷◌, ◌++◌, ℤ}
-use Rattle.sf_algebra.specs.Matrices.{Matrix, row_degrees, IsMatrix}
-use Rattle.sf_algebra.specs.Primes.{IsPrime}
+use Rattle.std.specs.Prelude.{◌≡◌, ◌↔◌, List, []}
+use Rattle.sf_algebra.specs.Matrices.{Matrix, IsMatrix}
 use Rattle.sf_algebra.specs.Rings.{Ring, IsRing, IsOverField}
 use Rattle.sf_algebra.specs.Vectors.{Vector}
-use Rattle.sf_groebner.specs.MinimalGenerators.{IsInSum, matrix_of, AreKept, AreMinimal, AreChosen}
+use Rattle.sf_groebner.specs.MinimalGenerators.{IsInSum, AreKept, AreMinimal, AreChosen}
 use Rattle.sf_groebner.specs.Presentations.{IsZero, IsRelation}
 use Rattle.sf_groebner.specs.Spans.{InSpan}
 

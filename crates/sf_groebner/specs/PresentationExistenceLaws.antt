@@ -1,8 +1,7 @@
--- What presented modules have modulo a prime: homology, kernels, images, cokernels and resolutions. (Weibel, "An Introduction to
--- Homological Algebra", sections 1.1 and 2.2.)
+-- What presented modules have modulo a prime: homology, kernels, images, cokernels and resolutions. (Weibel, "An
+-- Introduction to Homological Algebra", sections 1.1 and 2.2.)
 use Rattle.std.specs.Prelude.{◌≡◌, ℕ, List, length}
-use Rattle.sf_algebra.specs.Matrices.{Matrix, row_degrees, IsMatrix}
-use Rattle.sf_algebra.specs.Primes.{IsPrime}
+use Rattle.sf_algebra.specs.Matrices.{Matrix, IsMatrix}
 use Rattle.sf_algebra.specs.Rings.{IsOverField}
 use Rattle.sf_groebner.specs.Homology.{ComplexPlace, IsComplexPlace, IsHomology, IsKernel, IsImage, IsCokernel}
 use Rattle.sf_groebner.specs.Presentations.{IsModuleMap}

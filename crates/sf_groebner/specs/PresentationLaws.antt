@@ -1,6 +1,6 @@
--- What holds of presentations: each is determined by its matrices. (Weibel, "An Introduction to Homological Algebra", sections 1.1
--- and 2.2.)
-use Rattle.std.specs.Prelude.{◌≡◌, ◌<◌, List, length}
+-- What holds of presentations: each is determined by its matrices. (Weibel, "An Introduction to Homological Algebra",
+-- sections 1.1 and 2.2.)
+use Rattle.std.specs.Prelude.{◌≡◌, List, length}
 use Rattle.std.specs.List.{AllByRecursion}
 use Rattle.sf_algebra.specs.Matrices.{Matrix, row_degrees, IsMatrix}
 use Rattle.sf_algebra.specs.MatrixOperations.{stacked}
@@ -41,7 +41,8 @@ HasOneResolution =
     (relations : Matrix) → IsRing relations.ring → IsMatrix relations → (a b : List Matrix) → length a ≡ length b → IsResolution relations a → IsResolution relations b
     → a ≡ b
 
--- generators and relations of a homology are matrices, where the coefficients of `out` are vectors over the target of `here`
+-- generators and relations of a homology are matrices, where the coefficients of `out` are vectors over the target of
+-- `here`
 abbrev pub HasMatrixHomology : Type 0
 HasMatrixHomology =
     (place : ComplexPlace) → place.out.ring ≡ place.here.ring → row_degrees place.out ≡ place.here.target

@@ -1,11 +1,11 @@
--- Presented modules, their maps, and the presentation of a quotient. (homalg's convention: the rows of a matrix are relations, and
--- maps act on row vectors from the right.)
-use Rattle.std.specs.Prelude.{◌≡◌, ℕ, List, [], ℤ}
+-- Presented modules, their maps, and the presentation of a quotient. (homalg's convention: the rows of a matrix are
+-- relations, and maps act on row vectors from the right.)
+use Rattle.std.specs.Prelude.{◌≡◌, List, [], ℤ}
 use Rattle.sf_algebra.specs.Matrices.{Matrix, row_degrees, IsMatrix}
 use Rattle.sf_algebra.specs.Rings.{Ring}
 use Rattle.sf_algebra.specs.Vectors.{Vector}
 use Rattle.sf_groebner.specs.MinimalGenerators.{AreMinimal}
-use Rattle.sf_groebner.specs.ReducedBases.{IsReducedBasis, IsReducedBy, IsSpanBasis}
+use Rattle.sf_groebner.specs.ReducedBases.{IsReducedBy, IsSpanBasis}
 use Rattle.sf_groebner.specs.Spans.{InSpan, IsCoefficients, combined}
 
 -- the zero vectors
@@ -35,8 +35,8 @@ pub record AreRelationsModulo (generators base relations : Matrix) : Type 0 wher
   pub target : relations.target ≡ row_degrees generators
   pub minimal : AreMinimal generators.ring (IsRelation generators (InSpan base)) IsZero relations.rows
 
--- a matrix is a map from the module with the relations `source` to that with the relations `target`: the free modules meet, and it
--- sends relations into relations
+-- a matrix is a map from the module with the relations `source` to that with the relations `target`: the free modules
+-- meet, and it sends relations into relations
 pub record IsModuleMap (source target map : Matrix) : Type 0 where
   pub matrix : IsMatrix map
   pub source_ring : map.ring ≡ source.ring

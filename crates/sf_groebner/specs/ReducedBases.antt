@@ -1,5 +1,5 @@
--- Reduced bases of a module of vectors. (Cox, Little, O'Shea, "Using Algebraic Geometry", chapter 5, section 2.) A module is
--- given by the predicate that its vectors meet. The order of the rows is this project's own.
+-- Reduced bases of a module of vectors. (Cox, Little, O'Shea, "Using Algebraic Geometry", chapter 5, section 2.) A
+-- module is given by the predicate that its vectors meet. The order of the rows is this project's own.
 use Rattle.std.specs.Prelude.{◌≡◌, Bool, false, List, [], ◌∷◌, IsTrue, IsFalse}
 use Rattle.std.specs.declared.cmp.Ordering.{Ordering}
 use Rattle.std.specs.declared.cmp.Ordering.TheVariants.{Less, Equal}

@@ -1,14 +1,15 @@
--- Lists that aren't the reduced basis of the ideal of x^2 and x y + y^2, each for one reason. (The lists are this project's own.)
+-- Lists that aren't the reduced basis of the ideal of x^2 and x y + y^2, each for one reason. (The lists are this
+-- project's own.)
 use Rattle.std.specs.Prelude.{List, [], ◌∷◌}
 use Rattle.std.specs.List.{AllByRecursion}
 use Rattle.sf_algebra.specs.Rings.{ones}
 use Rattle.sf_algebra.specs.Vectors.{Vector}
 use Rattle.sf_groebner.specs.Examples.{term, vector, first_row, second_row, third_row, quadrics}
-use Rattle.sf_groebner.specs.ReducedBases.{HasDividedLead, IsApart, IsMonic, IsReducedBasis, IsSorted}
+use Rattle.sf_groebner.specs.ReducedBases.{HasDividedLead, IsApart, IsMonic, IsSorted, IsSpanBasis}
 use Rattle.sf_groebner.specs.Spans.{InSpan}
 
 abbrev pub IsRefused : List Vector → Type 0
-IsRefused vs = IsReducedBasis ones (InSpan quadrics) vs → ⊥
+IsRefused vs = IsSpanBasis quadrics vs → ⊥
 
 -- what else is asked of the list
 abbrev pub IsInsideQuadrics : List Vector → Type 0

@@ -1,5 +1,5 @@
--- The resolutions of the ideal of two variables, and of that of x^2 and x y + y^2. (Weibel, "An Introduction to Homological
--- Algebra", section 4.5: the Koszul complex of a regular sequence.)
+-- The resolutions of the ideal of two variables, and of that of x^2 and x y + y^2. (Weibel, "An Introduction to
+-- Homological Algebra", section 4.5: the Koszul complex of a regular sequence.)
 use Rattle.std.specs.Prelude.{[], ◌∷◌, pos}
 use Rattle.sf_algebra.specs.Matrices.{Matrix}
 use Rattle.sf_algebra.specs.Rings.{plain}

@@ -1,5 +1,5 @@
--- Canonical free resolutions of a presented module. (Weibel, "An Introduction to Homological Algebra", section 2.2; each step is
--- given by minimal generators.)
+-- Canonical free resolutions of a presented module. (Weibel, "An Introduction to Homological Algebra", section 2.2;
+-- each step is given by minimal generators.)
 use Rattle.std.specs.Prelude.{◌≡◌, List, [], ◌∷◌}
 use Rattle.sf_algebra.specs.Matrices.{Matrix, row_degrees}
 use Rattle.sf_groebner.specs.MinimalGenerators.{AreMinimal}

@@ -1,14 +1,13 @@
 -- The matrices for which bases are computed. (The bounds are this project's own.)
-use Rattle.std.specs.Prelude.{ℕ, ◌≤◌, List, [], ◌∷◌, length, ℤ, pos, neg_ℤ, ◌≤ℤ◌, Option, Some, None}
+use Rattle.std.specs.Prelude.{ℕ, ◌≤◌, List, [], ◌∷◌, length, Option, Some, None}
 use Rattle.std.specs.List.{AllByRecursion}
 use Rattle.sf_algebra.specs.Bounds.{GREATEST_SIZE, HasSmallSize}
-use Rattle.sf_algebra.specs.Matrices.{Matrix, row_degrees}
+use Rattle.sf_algebra.specs.Matrices.{Matrix}
 use Rattle.sf_algebra.specs.Monomials.{monomial_degree}
 use Rattle.sf_algebra.specs.Rings.{Weights}
 use Rattle.sf_algebra.specs.Terms.{Term}
 use Rattle.sf_algebra.specs.Vectors.{Place, Vector}
-use Rattle.sf_groebner.specs.ReducedBases.{IsReducedBasis, IsSpanBasis, IsGraphBasis}
-use Rattle.sf_groebner.specs.Spans.{InSpan, IsGraphVector}
+use Rattle.sf_groebner.specs.ReducedBases.{IsSpanBasis, IsGraphBasis}
 
 -- the monomial of the lead of a list, where there is one, has at most this degree
 abbrev pub HasLeadUpTo : Weights → ℕ → List (Term Place) → Type 0

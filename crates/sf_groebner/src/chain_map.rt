@@ -1,7 +1,7 @@
 ghost use Rattle.sf_groebner.specs.HomologyLaws.{HasIdentityChainMaps, ActsOnHomology, ActsOnKernels, ActsOnImages, ActsOnCokernels, KeepsEqualClasses};
 
 /// Maps of complexes, of which the identities are some, act on homology, and squares of maps on kernels, images and cokernels;
-/// and what acts so takes equal classes to equal classes.
+/// and a matrix that takes one span into another takes what is equal modulo the one to what is equal modulo the other.
 pub fn homology_of_maps()
     ensures identities { HasIdentityChainMaps }
     ensures homology { ActsOnHomology }

@@ -1,6 +1,6 @@
 //! Polynomials over the residues modulo a prime: canonical lists of terms, with sums and products.
 //!
-//! Contracts see one as the modulus and the list of its terms, in the words of `sf_algebra`.
+//! Contracts see one as the ring and the list of its terms, in the words of `sf_algebra`.
 #![tactic(auto)]
 
 mod laws;

@@ -62,7 +62,7 @@ impl Poly {
         Ok(Poly { modulus, terms })
     }
 
-    /// The sum with a polynomial of the same modulus.
+    /// The sum with a polynomial of the same ring.
     pub fn add(&self, alloc: Global, other: &Poly) -> Result<Poly, OutOfMemory>
         requires ring { self.now.ring ≡ other.now.ring }
         ensures sum { IfOk result (λ f. f ≡ record self.now { terms = polynomial_sum self.now.ring self.now.terms other.now.terms }) }
@@ -74,7 +74,7 @@ impl Poly {
         })
     }
 
-    /// The difference with a polynomial of the same modulus.
+    /// The difference with a polynomial of the same ring.
     pub fn sub(&self, alloc: Global, other: &Poly) -> Result<Poly, OutOfMemory>
         requires ring { self.now.ring ≡ other.now.ring }
         ensures difference { IfOk result (λ f. f ≡ record self.now {
@@ -113,7 +113,7 @@ impl Poly {
         })
     }
 
-    /// The product with a polynomial of the same modulus.
+    /// The product with a polynomial of the same ring.
     ///
     /// It fits where one of the two is 0, or their degrees add to at most 65,535.
     pub fn mul(&self, alloc: Global, other: &Poly) -> Result<Poly, OutOfMemory>

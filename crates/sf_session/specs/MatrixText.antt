@@ -1,5 +1,5 @@
--- How a matrix is written. Its text is cut at the semicolons into rows, at the commas into entries, at the signs into terms, at the
--- stars into factors, and at the caret into a name and its exponent.
+-- How a matrix is written. Its text is cut at the semicolons into rows, at the commas into entries, at the signs into
+-- terms, at the stars into factors, and at the caret into a name and its exponent.
 use Rattle.std.specs.Prelude.{ℕ, Bool, true, false, ◌-◌, ◌&&◌, ◌||◌, ◌==◌, nat_le, if◌then◌else◌, Option, Some, None, option_and_then, List, [], ◌∷◌, length, take, drop, slice_index}
 use Rattle.std.specs.Option.{option_map}
 use Rattle.sf_algebra.specs.Printing.{comma, semicolon, plus, star}

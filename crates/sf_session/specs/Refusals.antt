@@ -55,8 +55,8 @@ knows_row names = list_all (knows_entry names)
 abbrev pub first_failing : {X : Type 0} → (X → Bool) → List X → Option X
 first_failing test = find (λ x. not (test x))
 
--- the leftmost variable of a matrix that isn't one of the ring's: it stands in the first row that has one, in the first such
--- entry of this row, and in the first such term of this entry
+-- the leftmost variable of a matrix that isn't one of the ring's: it stands in the first row that has one, in the first
+-- such entry of this row, and in the first such term of this entry
 abbrev pub first_unknown : List (List ℕ) → List (List (List RawTerm)) → Option (List ℕ)
 first_unknown names rows = do
   row ← first_failing (knows_row names) rows

@@ -10,7 +10,8 @@ use Rattle.sf_session.specs.declared.heads.Heads.TheVariants.{Unopened, Opened, 
 use Rattle.sf_session.specs.declared.heads.Heads.{Heads}
 use Rattle.sf_session.specs.declared.heads.Ring.{Ring}
 
--- the headings that were accepted, and the relations of each module, which stand over its generators, in the order of definition
+-- the headings that were accepted, and the relations of each module, which stand over its generators, in the order of
+-- definition
 pub record State : Type 0 where
   pub heads : Heads
   pub modules : List (List ℕ × Matrix)

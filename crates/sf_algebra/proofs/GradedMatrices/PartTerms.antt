@@ -12,7 +12,7 @@ use Rattle.std.proofs.lemmas.List.Elements.{filter-append}
 use Rattle.sf_algebra.specs.MatrixOperations.{part_terms}
 use Rattle.sf_algebra.specs.Monomials.{monomial_cmp, monomial_degree}
 use Rattle.sf_algebra.specs.Rings.{Ring, Weights}
-use Rattle.sf_algebra.specs.Terms.{Term, IsDescending, IsNonzeroResidue, IsCanonical}
+use Rattle.sf_algebra.specs.Terms.{Term, IsDescending, IsNonzeroResidue}
 use Rattle.sf_algebra.specs.Vectors.{Place, Vector, place_cmp, entry, generator_degree, IsTermOfDegree, IsVector, IsCanonicalRow}
 use Rattle.sf_algebra.proofs.GradedMatrices.Columns.{AllByRecursion-always}
 use Rattle.sf_algebra.proofs.GradedMatrices.MatrixRows.{StandsWithin}

@@ -5,8 +5,8 @@ use Rattle.std.proofs.lemmas.List.{map-append}
 use Rattle.sf_algebra.specs.Matrices.{Matrix, row_degrees, IsMatrix}
 use Rattle.sf_algebra.specs.MatrixOperations.{row_at, part, part_terms, stacked, transposed}
 use Rattle.sf_algebra.specs.Rings.{Ring}
-use Rattle.sf_algebra.specs.Terms.{Term, IsCanonical}
-use Rattle.sf_algebra.specs.Vectors.{Place, Vector, place_cmp, entry, IsVector, IsCanonicalRow}
+use Rattle.sf_algebra.specs.Terms.{Term}
+use Rattle.sf_algebra.specs.Vectors.{Place, Vector, entry, IsVector, IsCanonicalRow}
 use Rattle.sf_algebra.proofs.Basics.Lists.{AllByRecursion-weaken}
 use Rattle.sf_algebra.proofs.GradedMatrices.MatrixRows.{with_terms, row_at-drop, row_at-take, same_matrices}
 use Rattle.sf_algebra.proofs.GradedMatrices.PartTerms.{entry-part_terms, IsWithin-part_terms, part_terms-whole, IsCanonical-part_terms, IsVector-part_terms}

@@ -1,5 +1,5 @@
 -- The size of a matrix is within bounds where its numbers of rows and columns, its least degree and its greatest are.
-use Rattle.std.proofs.Common.{◌≡◌, ◌⊎◌, inl, inr, ◌↔◌, List, [], ◌∷◌, ◌++◌, length, ℤ, pos, neg_ℤ, ◌≤ℤ◌, arith, subst, sym}
+use Rattle.std.proofs.Common.{inl, inr, ◌↔◌, List, [], ◌∷◌, ◌++◌, length, ℤ, pos, neg_ℤ, ◌≤ℤ◌, arith, subst, sym}
 use Rattle.std.proofs.lemmas.Int.{ints}
 use Rattle.std.specs.List.{AllByRecursion}
 use Rattle.sf_algebra.specs.Bounds.{AreFrom, Fits, GREATEST_DEGREE, HasSmallSize, IsOneOf, IsSmallDegree}

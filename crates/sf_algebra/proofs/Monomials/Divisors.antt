@@ -119,7 +119,7 @@ monomial_degree-lcm weights a b =
     rw (← monomial_degree-product weights a b)
     (monomial_degree-Divides weights (lcm a b) (product a b) (Divides-lcm_product a b))
 
-pub lcm-sum : (weights : Weights) (a b : Monomial)
+pub lcm-degree : (weights : Weights) (a b : Monomial)
     → (monomial_degree weights a ≤ monomial_degree weights (lcm a b))
     × (monomial_degree weights b ≤ monomial_degree weights (lcm a b))
-lcm-sum weights a b = let h = lcm-multiple a b in (monomial_degree-Divides weights a (lcm a b) h.0, monomial_degree-Divides weights b (lcm a b) h.1)
+lcm-degree weights a b = let h = lcm-multiple a b in (monomial_degree-Divides weights a (lcm a b) h.0, monomial_degree-Divides weights b (lcm a b) h.1)

@@ -1,5 +1,5 @@
--- Multiples of combinations, and combinations with combinations as coefficients. A product of a coefficient with a monomial
--- stands for the same row.
+-- Multiples of combinations, and combinations with combinations as coefficients. A product of a coefficient with a
+-- monomial stands for the same row.
 use Rattle.std.proofs.Common.{◌≡◌, ℕ, ◌%◌, ◌<◌, List, sym, ◌∙◌, ap}
 use Rattle.sf_algebra.specs.Monomials.{Monomial, product}
 use Rattle.sf_algebra.specs.Multiples.{term_product, multiple, negative, combination}

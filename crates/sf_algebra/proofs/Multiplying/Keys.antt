@@ -1,4 +1,5 @@
--- What the laws of multiples take of that at which terms stand: a linear order, and an action of the monomials that keeps it.
+-- What the laws of multiples take of that at which terms stand: a linear order, and an action of the monomials that
+-- keeps it.
 use Rattle.std.proofs.Common.{◌≡◌}
 use Rattle.std.specs.declared.cmp.Ordering.{Ordering}
 use Rattle.sf_algebra.specs.Monomials.{Monomial, one, product, monomial_cmp}

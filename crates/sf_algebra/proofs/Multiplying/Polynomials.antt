@@ -1,5 +1,5 @@
 -- Polynomials with sums and products are a commutative ring.
-use Rattle.std.proofs.Common.{◌≡◌, ℕ, ◌%◌, ◌<◌, List, [], ◌∷◌, ◌++◌, refl, sym, ◌∙◌, ap}
+use Rattle.std.proofs.Common.{◌≡◌, ◌%◌, ◌<◌, List, [], ◌∷◌, ◌++◌, refl, sym, ◌∙◌, ap}
 use Rattle.sf_algebra.specs.Monomials.{Monomial, product, monomial_cmp}
 use Rattle.sf_algebra.specs.Multiples.{multiple, negative, term_product, combination, combination_terms}
 use Rattle.sf_algebra.specs.Polynomials.{polynomial_product}
@@ -112,7 +112,8 @@ module _ (ring : Ring) (positive : 0 < ring.modulus) where
       combination-multiple (monomial_keys ring.weights) (monomial_keys ring.weights) ring.modulus positive (λ a. a)
       (λ _. v) (constant_rows ring.weights v) s u
 
--- the coefficient of a product is the sum of the products of those pairs of coefficients whose terms' product stands there
+-- the coefficient of a product is the sum of the products of those pairs of coefficients whose terms' product stands
+-- there
 pub coefficient_at-polynomial_product : (ring : Ring) (k : Monomial) (u v : List (Term Monomial))
     → coefficient_at (monomial_cmp ring.weights) ring.modulus k (polynomial_product ring u v)
     ≡ total ring.modulus

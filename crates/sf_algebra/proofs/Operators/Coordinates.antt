@@ -107,7 +107,8 @@ module _ {R : Type 0} (C G : Group R) (combined : C.V → G.V) (map : IsMap C G 
       → AreCoordinates G combined B w e → Mod G B v w → c ≡ e
   coordinates-only reduced one v w c e r s h k same = one c e r s (coordinates-Mod v w c e h k same)
 
--- maps by coordinates: f from N / B, with generators, to M / A, with generators, and g, which gives coordinates of what f gives
+-- maps by coordinates: f from N / B, with generators, to M / A, with generators, and g, which gives coordinates of what
+-- f gives
 module _ {R : Type 0} (C G D H : Group R) (combined : C.V → G.V) (beyond : D.V → H.V) (map : IsMap D H beyond)
     (B : G.V → Type 0) (A : H.V → Type 0) (a : IsSub H A) (f : G.V → H.V) (f_map : IsMap G H f)
     (bounds : IsWithin B (PreimageOf f A)) where

@@ -1,6 +1,7 @@
--- Correspondences of quotients Z / B and Y / A: relations of their elements that keep sums. A correspondence that relates each
--- element of Z, and the elements of B to those of A alone, is a well-defined map of the classes; where the same holds the other
--- way round too, it is one-to-one and onto. What a chase through a diagram gives is such a relation.
+-- Correspondences of quotients Z / B and Y / A: relations of their elements that keep sums. A correspondence that
+-- relates each element of Z, and the elements of B to those of A alone, is a well-defined map of the classes; where the
+-- same holds the other way round too, it is one-to-one and onto. What a chase through a diagram gives is such a
+-- relation.
 use Rattle.std.proofs.Common.{sym, subst}
 use Rattle.sf_algebra.specs.Groups.{Group, IsSub, IsMap, Mod}
 use Rattle.sf_algebra.proofs.Operators.Congruences.{Mod-refl, Mod-plus, Mod-minus, Mod-act, Mod-inside, Mod-sym}

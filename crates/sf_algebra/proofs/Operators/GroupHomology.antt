@@ -1,12 +1,13 @@
--- Homology of groups modulo relations: cycles and boundaries between two maps that pass each other, and what maps of complexes
--- do on them.
+-- Homology of groups modulo relations: cycles and boundaries between two maps that pass each other, and what maps of
+-- complexes do on them.
 use Rattle.std.proofs.Common.{refl}
 use Rattle.sf_algebra.specs.Groups.{Group, IsSub, IsMap, Mod, IsWithin, Whole, ImageOf, PreimageOf, SumOf}
 use Rattle.sf_algebra.proofs.Operators.Congruences.{Mod-sym, Mod-trans, Mod-within, Mod-inside, Mod-add}
 use Rattle.sf_algebra.proofs.Operators.Quotients.{ActsOnQuotients}
 use Rattle.sf_algebra.proofs.Operators.Subgroups.{Whole-sub, ImageOf-sub, PreimageOf-sub, SumOf-sub, SumOf-within, ImageOf-within, within-SumOf_first, within-SumOf_second}
 
--- a map into a group with the relations `here`, and one out of it into a group with the relations `beyond`, which pass each other
+-- a map into a group with the relations `here`, and one out of it into a group with the relations `beyond`, which pass
+-- each other
 pub record PassingMaps (R : Type 0) : Type 1 where
   pub source : Group R
   pub middle : Group R
@@ -62,7 +63,8 @@ module _ {R : Type 0} (C : PassingMaps R) where
   pub boundaries-cycles : IsWithin (BoundariesOf C) (CyclesOf C)
   boundaries-cycles = BoundariesOf-within (CyclesOf C) CyclesOf-sub C.passing C.relations
 
--- maps from three groups in a row to three others, which take relations to relations and meet the maps of the rows modulo relations
+-- maps from three groups in a row to three others, which take relations to relations and meet the maps of the rows
+-- modulo relations
 pub record AreMapsOfPassingMaps {R : Type 0} (C D : PassingMaps R) (first : C.source.V → D.source.V)
     (second : C.middle.V → D.middle.V) (third : C.target.V → D.target.V) : Type 0 where
   pub second_map : IsMap C.middle D.middle second

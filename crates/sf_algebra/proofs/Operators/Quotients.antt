@@ -1,5 +1,5 @@
--- Quotients Z / B of subgroups: what a map does on them, one-to-one and onto, and the inverse on classes. The classes are not
--- formed: elements of Z are compared modulo B.
+-- Quotients Z / B of subgroups: what a map does on them, one-to-one and onto, and the inverse on classes. The classes
+-- are not formed: elements of Z are compared modulo B.
 use Rattle.std.proofs.Common.{sym, ◌∙◌, ap, subst}
 use Rattle.sf_algebra.specs.Groups.{Group, IsSub, IsMap, Mod, IsWithin, PreimageOf, SumOf}
 use Rattle.sf_algebra.proofs.Operators.Congruences.{Mod-sym, Mod-trans, Mod-equal, Mod-plus, Mod-act, Mod-map}

@@ -1,4 +1,5 @@
--- The Kronecker product as the product of two with an identity, the rows of which are those of one matrix, moved or scattered.
+-- The Kronecker product as the product of two with an identity, the rows of which are those of one matrix, moved or
+-- scattered.
 use Rattle.std.proofs.Common.{◌≡◌, refl, ℕ, suc, ◌+◌, ◌*◌, ◌<◌, ◌≤◌, List, [], ◌∷◌, ◌++◌, map, length, ℤ, ◌+ℤ◌, sym, ap, ◌∙◌, subst, arith, append_assoc, append-nil}
 use Rattle.std.specs.List.{flat_map}
 use Rattle.sf_algebra.specs.Matrices.{Matrix, row_degrees, IsMatrix}

@@ -7,8 +7,7 @@ use Rattle.sf_algebra.specs.Matrices.{Matrix, IsMatrix}
 use Rattle.sf_algebra.specs.MatrixOperations.{row_at, unit_vector, unit_rows, identity, moved, kronecker_terms, degree_sums, kronecker}
 use Rattle.sf_algebra.specs.Polynomials.{polynomial_product}
 use Rattle.sf_algebra.specs.Rings.{Ring}
-use Rattle.sf_algebra.specs.Terms.{IsCanonical}
-use Rattle.sf_algebra.specs.Vectors.{place_cmp, entry, IsCanonicalRow}
+use Rattle.sf_algebra.specs.Vectors.{entry, IsCanonicalRow}
 use Rattle.sf_algebra.proofs.GradedMatrices.Identities.{IsMatrix-identity, length-unit_rows, unit_rows-append}
 use Rattle.sf_algebra.proofs.GradedMatrices.MatrixRows.{IsCanonical-matrix_row}
 use Rattle.sf_algebra.proofs.GradedMatrices.TransposedProducts.{entry-unit_rows, entry-unit_rows_other}

@@ -5,7 +5,7 @@ use Rattle.sf_algebra.specs.Monomials.{Monomial}
 use Rattle.sf_algebra.specs.Multiples.{place_product, term_product, combination}
 use Rattle.sf_algebra.specs.Rings.{Ring}
 use Rattle.sf_algebra.specs.Sums.{total}
-use Rattle.sf_algebra.specs.Terms.{Term, IsCanonical}
+use Rattle.sf_algebra.specs.Terms.{Term}
 use Rattle.sf_algebra.specs.Vectors.{Place, place_cmp, IsCanonicalRow}
 use Rattle.sf_algebra.proofs.GradedMatrices.ProductParts.{combination-no_rows}
 use Rattle.sf_algebra.proofs.Multiplying.Associativity.{combination_combination}

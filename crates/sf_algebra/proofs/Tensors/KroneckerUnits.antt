@@ -8,7 +8,7 @@ use Rattle.sf_algebra.specs.Monomials.{one, monomial_cmp}
 use Rattle.sf_algebra.specs.Residues.{sum_mod}
 use Rattle.sf_algebra.specs.Rings.{Ring, Weights}
 use Rattle.sf_algebra.specs.Sums.{total}
-use Rattle.sf_algebra.specs.Terms.{Term, IsDescending, IsNonzeroResidue, IsCanonical}
+use Rattle.sf_algebra.specs.Terms.{Term, IsDescending, IsNonzeroResidue}
 use Rattle.sf_algebra.specs.Vectors.{Place, Vector, place_cmp, generator_degree, IsVector, IsCanonicalRow}
 use Rattle.sf_algebra.proofs.Arithmetic.Residues.{product_mod-one, sum_mod-zero}
 use Rattle.sf_algebra.proofs.Basics.Lists.{AllByRecursion-weaken}

@@ -7,7 +7,7 @@ use Rattle.sf_algebra.specs.MatrixOperations.{row_at, row_combination}
 use Rattle.sf_algebra.specs.Monomials.{Monomial, monomial_degree}
 use Rattle.sf_algebra.specs.Multiples.{place_product, term_product, multiple, negative, combination, combination_terms}
 use Rattle.sf_algebra.specs.Rings.{Ring, Weights}
-use Rattle.sf_algebra.specs.Sums.{add, normal}
+use Rattle.sf_algebra.specs.Sums.{normal}
 use Rattle.sf_algebra.specs.Terms.{Term}
 use Rattle.sf_algebra.specs.VectorOperations.{row_sum, row_multiple}
 use Rattle.sf_algebra.specs.Vectors.{Place, Vector, place_cmp, generator_degree, place_degree, IsTermOfDegree, IsHomogeneous}

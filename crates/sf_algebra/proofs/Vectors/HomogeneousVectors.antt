@@ -5,19 +5,16 @@ use Rattle.sf_algebra.specs.DegreeParts.{degree_part}
 use Rattle.sf_algebra.specs.Matrices.{Matrix, IsMatrix, row_degrees}
 use Rattle.sf_algebra.specs.MatrixOperations.{row_combination, identity, unit_vector}
 use Rattle.sf_algebra.specs.Monomials.{Monomial, monomial_degree}
-use Rattle.sf_algebra.specs.Multiples.{place_product, multiple, negative}
+use Rattle.sf_algebra.specs.Multiples.{negative}
 use Rattle.sf_algebra.specs.Rings.{Ring}
-use Rattle.sf_algebra.specs.Sums.{add}
 use Rattle.sf_algebra.specs.Terms.{Term}
 use Rattle.sf_algebra.specs.VectorOperations.{row_sum, row_multiple}
 use Rattle.sf_algebra.specs.Vectors.{Place, Vector, place_cmp, generator_degree, IsHomogeneous, IsVector, IsCanonicalRow}
 use Rattle.sf_algebra.proofs.Basics.Filters.{IsCanonical-filter}
 use Rattle.sf_algebra.proofs.Basics.Lists.{AllByRecursion-weaken}
-use Rattle.sf_algebra.proofs.Monomials.Orders.{place_cmp_linear}
 use Rattle.sf_algebra.proofs.Multiplying.Keys.{place_keys}
 use Rattle.sf_algebra.proofs.Multiplying.Multiples.{IsCanonical-multiple}
 use Rattle.sf_algebra.proofs.Terms.Negatives.{IsCanonical-negative}
-use Rattle.sf_algebra.proofs.Terms.Normal.{IsCanonical-add}
 use Rattle.sf_algebra.proofs.Vectors.DegreeParts.{IsHomogeneous-degree_part, row_combination-degree_part}
 use Rattle.sf_algebra.proofs.Vectors.Degrees.{HasHomogeneousRows, IsHomogeneous-add, IsHomogeneous-multiple, IsHomogeneous-negative, IsHomogeneous-row_combination}
 use Rattle.sf_algebra.proofs.Vectors.RowParts.{HasCanonicalRows}

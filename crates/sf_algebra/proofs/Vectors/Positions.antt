@@ -114,7 +114,8 @@ later_positions : (weights : Weights) (i : ℕ) (t : Term Place) (ts : List (Ter
 later_positions weights i t ts h before =
     (omega arith, AllByRecursion-weaken _ _ (λ u le. omega arith) ts (IsDescending-positions weights t ts h))
 
--- two lists with equal entries whose first terms stand at one position have equal first terms, and rests with equal entries
+-- two lists with equal entries whose first terms stand at one position have equal first terms, and rests with equal
+-- entries
 same_first : (t u : Term Place) (ts us : List (Term Place)) → t.at.position ≡ u.at.position
     → ((i : ℕ) → entry i (t ∷ ts) ≡ entry i (u ∷ us)) → (t ≡ u) × ((i : ℕ) → entry i ts ≡ entry i us)
 same_first t u ts us place same =

@@ -5,7 +5,7 @@ use Rattle.sf_algebra.specs.Matrices.{Matrix}
 use Rattle.sf_algebra.specs.MatrixOperations.{row_at, row_combination, negated}
 use Rattle.sf_algebra.specs.Multiples.{place_product, combination, negative}
 use Rattle.sf_algebra.specs.Rings.{Ring}
-use Rattle.sf_algebra.specs.Terms.{Term, IsCanonical}
+use Rattle.sf_algebra.specs.Terms.{Term}
 use Rattle.sf_algebra.specs.Vectors.{Place, Vector, place_cmp, IsCanonicalRow}
 use Rattle.sf_algebra.proofs.Multiplying.Associativity.{combination-negative_rows}
 use Rattle.sf_algebra.proofs.Multiplying.Keys.{place_keys}

@@ -3,10 +3,9 @@ use Rattle.std.proofs.Common.{◌≡◌, ℕ, zero, suc, ◌+◌, ◌<◌, ◌�
 use Rattle.sf_algebra.specs.Matrices.{Matrix}
 use Rattle.sf_algebra.specs.MatrixOperations.{row_at, row_combination, matrix_product}
 use Rattle.sf_algebra.specs.Monomials.{Monomial}
-use Rattle.sf_algebra.specs.Multiples.{place_product, multiple, negative, combination}
+use Rattle.sf_algebra.specs.Multiples.{place_product, negative, combination}
 use Rattle.sf_algebra.specs.Rings.{Ring, Weights}
-use Rattle.sf_algebra.specs.Sums.{add}
-use Rattle.sf_algebra.specs.Terms.{Term, IsCanonical}
+use Rattle.sf_algebra.specs.Terms.{Term}
 use Rattle.sf_algebra.specs.VectorOperations.{row_sum, row_multiple}
 use Rattle.sf_algebra.specs.Vectors.{Place, Vector, place_cmp, IsCanonicalRow}
 use Rattle.sf_algebra.proofs.Multiplying.Associativity.{IsOfRows, combination_combination, combination-multiple, combination-negative}

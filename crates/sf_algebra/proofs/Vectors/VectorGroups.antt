@@ -1,5 +1,5 @@
--- Vectors as groups: the canonical lists of terms, on which the terms of polynomials act, and the homogeneous vectors of one
--- degree. Combinations of rows are maps of these groups, and spans are subgroups.
+-- Vectors as groups: the canonical lists of terms, on which the terms of polynomials act, and the homogeneous vectors
+-- of one degree. Combinations of rows are maps of these groups, and spans are subgroups.
 use Rattle.std.proofs.Common.{ℕ, ◌<◌, List, [], ℤ}
 use Rattle.sf_algebra.specs.Groups.{Group, IsSub, IsMap, Whole, ImageOf}
 use Rattle.sf_algebra.specs.Matrices.{Matrix, IsMatrix, row_degrees}
@@ -11,7 +11,6 @@ use Rattle.sf_algebra.specs.Sums.{add}
 use Rattle.sf_algebra.specs.Terms.{Term, IsCanonical}
 use Rattle.sf_algebra.specs.VectorOperations.{row_sum}
 use Rattle.sf_algebra.specs.Vectors.{Place, Vector, place_cmp, IsVector}
-use Rattle.sf_algebra.proofs.Monomials.Orders.{place_cmp_linear}
 use Rattle.sf_algebra.proofs.Multiplying.Keys.{Keys, place_keys}
 use Rattle.sf_algebra.proofs.Multiplying.MultipleLaws.{multiple-add}
 use Rattle.sf_algebra.proofs.Multiplying.Multiples.{IsCanonical-multiple}

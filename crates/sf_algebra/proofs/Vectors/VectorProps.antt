@@ -1,4 +1,5 @@
--- That a list is canonical, or a vector homogeneous, has at most one proof; so values that carry this are equal where their terms are.
+-- That a list is canonical, or a vector homogeneous, has at most one proof; so values that carry this are equal where
+-- their terms are.
 use Rattle.std.proofs.Common.{◌≡◌, ℕ, List, [], ◌∷◌, ℤ}
 use Rattle.std.proofs.Props.{props}
 use Rattle.std.specs.declared.cmp.Ordering.{Ordering}

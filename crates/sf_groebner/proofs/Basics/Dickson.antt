@@ -1,5 +1,6 @@
--- Dickson's lemma: a list of monomials, none of which an earlier one divides, does not go on for ever. (Cox, Little, O'Shea,
--- "Ideals, Varieties, and Algorithms", chapter 2, section 4.) Here as well-founded recursion on the list, the last one first.
+-- Dickson's lemma: a list of monomials, none of which an earlier one divides, does not go on for ever. (Cox, Little,
+-- O'Shea, "Ideals, Varieties, and Algorithms", chapter 2, section 4.) Here as well-founded recursion on the list, the
+-- last one first.
 use Rattle.std.proofs.Common.{◌≡◌, Bool, true, false, ◌&&◌, inl, inr, ℕ, zero, suc, ◌+◌, ◌-◌, ◌<◌, ◌≤◌, List, [], ◌∷◌, map, nat_le, IsFalse, refl, sym, ap, subst, arith}
 use Rattle.std.specs.List.{list_any}
 use Rattle.std.proofs.lemmas.Bool.{cases_lt, cases_Bool, or_cases, or_left, or_right, or_parts, or_from, and_from, and_parts, eq-eqb, le-leb, leb-true, false_from_ne_true}

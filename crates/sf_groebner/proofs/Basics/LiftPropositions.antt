@@ -1,12 +1,12 @@
 -- That c is the lift of v is met in one way at most: there is one reduced basis of the syzygies.
-use Rattle.std.proofs.Common.{◌≡◌, ◌<◌}
+use Rattle.std.proofs.Common.{◌≡◌}
 use Rattle.std.proofs.Props.{props}
 use mathlib.Core.HLevel.{is_prop→PathP}
 use Rattle.sf_algebra.specs.Matrices.{Matrix, row_degrees}
 use Rattle.sf_algebra.specs.Rings.{IsRing}
 use Rattle.sf_algebra.specs.Vectors.{Vector}
 use Rattle.sf_groebner.specs.Lifts.{IsLift}
-use Rattle.sf_groebner.specs.ReducedBases.{IsReducedBy, IsReducedBasis, IsSyzygyBasis}
+use Rattle.sf_groebner.specs.ReducedBases.{IsReducedBy, IsSyzygyBasis}
 use Rattle.sf_groebner.specs.Spans.{combined, IsSyzygy}
 use Rattle.sf_algebra.proofs.Vectors.VectorProps.{IsVector-prop}
 use Rattle.sf_groebner.proofs.Basics.Propositions.{IsReducedBy-prop, syzygy_basis-prop}

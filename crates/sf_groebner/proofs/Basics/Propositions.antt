@@ -1,13 +1,12 @@
 -- What is asked of vectors and of bases is met in at most one way.
-use Rattle.std.proofs.Common.{ℕ, List, [], ◌∷◌, ℤ}
+use Rattle.std.proofs.Common.{ℕ, List, [], ◌∷◌}
 use Rattle.std.proofs.Props.{props}
-use Rattle.std.specs.declared.cmp.Ordering.{Ordering}
 use Rattle.std.specs.List.{AllByRecursion-prop}
 use Rattle.sf_algebra.specs.Bounds.{HasSmallSize}
 use Rattle.sf_algebra.specs.Matrices.{Matrix, IsMatrix}
-use Rattle.sf_algebra.specs.Rings.{Ring, Weights}
-use Rattle.sf_algebra.specs.Terms.{Term, IsDescending, IsCanonical}
-use Rattle.sf_algebra.specs.Vectors.{Place, Vector, place_cmp, IsVector}
+use Rattle.sf_algebra.specs.Rings.{Weights}
+use Rattle.sf_algebra.specs.Terms.{Term}
+use Rattle.sf_algebra.specs.Vectors.{Place, Vector}
 use Rattle.sf_groebner.specs.ReducedBases.{IsMonic, HasDividedLead, IsReducedBy, IsApart, IsSorted, IsReducedBasis, IsSyzygyBasis, IsGraphBasis}
 use Rattle.sf_groebner.specs.Small.{HasLeadUpTo, IsWithinLimit, IsSmall, IsLarge}
 use Rattle.sf_groebner.specs.Spans.{IsSyzygy, IsGraphVector}

@@ -1,6 +1,6 @@
--- Buchberger's algorithm as a proof: each finitely generated module has monic vectors whose leads divide each lead. Rests of
--- generators and of S-vectors are taken in until there are none; Dickson's lemma ends this. (Cox, Little, O'Shea, "Using
--- Algebraic Geometry", chapter 5, section 2.)
+-- Buchberger's algorithm as a proof: each finitely generated module has monic vectors whose leads divide each lead.
+-- Rests of generators and of S-vectors are taken in until there are none; Dickson's lemma ends this. (Cox, Little,
+-- O'Shea, "Using Algebraic Geometry", chapter 5, section 2.)
 use Rattle.std.proofs.Common.{◌≡◌, ◌⊎◌, inl, inr, false, ℕ, zero, suc, ◌<◌, List, [], ◌∷◌, length, refl, sym, ◌∙◌, ap, subst, arith, ℤ}
 use Rattle.std.proofs.lemmas.Bool.{cases_eq, cases_lt}
 use Rattle.std.proofs.lemmas.List.{length-map}
@@ -8,16 +8,12 @@ use Rattle.std.specs.List.{AllByRecursion, list_any}
 use mathlib.Core.WellFounded.{Acc}
 use Rattle.sf_algebra.specs.Matrices.{degrees_of}
 use Rattle.sf_algebra.specs.MatrixOperations.{row_combination}
-use Rattle.sf_algebra.specs.Primes.{IsPrime}
 use Rattle.sf_algebra.specs.Rings.{Ring, IsOverField}
-use Rattle.sf_algebra.specs.Sums.{add}
 use Rattle.sf_algebra.specs.Terms.{Term}
 use Rattle.sf_algebra.specs.VectorOperations.{row_sum}
-use Rattle.sf_algebra.specs.Vectors.{Place, Vector, place_cmp, IsHomogeneous}
+use Rattle.sf_algebra.specs.Vectors.{Place, Vector, IsHomogeneous}
 use Rattle.sf_algebra.proofs.Basics.Lists.{AllByRecursion-weaken}
-use Rattle.sf_algebra.proofs.Monomials.Orders.{place_cmp_linear}
 use Rattle.sf_algebra.proofs.Monomials.Weights.{field_ring}
-use Rattle.sf_algebra.proofs.Terms.Sums.{add-nil_first}
 use Rattle.sf_algebra.proofs.Vectors.RowSums.{row_sum-nil_first}
 use Rattle.sf_algebra.proofs.Vectors.Rows.{IsCanonical-row_combination}
 use Rattle.sf_groebner.specs.Criterion.{HaveLeadsAtOnePosition, ReducesToZero, lead_at, lead_place, s_vector, s_coefficients}

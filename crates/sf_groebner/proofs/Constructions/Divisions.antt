@@ -1,26 +1,23 @@
--- Division of a homogeneous vector by monic rows: a rest no term of which a lead divides. (Cox, Little, O'Shea, "Using Algebraic
--- Geometry", chapter 5, section 2.)
-use Rattle.std.proofs.Common.{◌≡◌, inl, inr, false, ℕ, ◌<◌, List, [], ◌∷◌, ◌++◌, length, sym, ◌∙◌, ap, subst, arith, ℤ}
+-- Division of a homogeneous vector by monic rows: a rest no term of which a lead divides. (Cox, Little, O'Shea, "Using
+-- Algebraic Geometry", chapter 5, section 2.)
+use Rattle.std.proofs.Common.{◌≡◌, inl, inr, false, ℕ, ◌<◌, List, [], ◌∷◌, ◌++◌, length, sym, ◌∙◌, ap, subst, ℤ}
 use Rattle.std.proofs.lemmas.Bool.{cases_Bool}
 use Rattle.std.specs.declared.cmp.Ordering.TheVariants.{Less}
 use Rattle.std.specs.List.{AllByRecursion}
 use Rattle.sf_algebra.specs.Matrices.{degrees_of}
 use Rattle.sf_algebra.specs.MatrixOperations.{row_combination}
 use Rattle.sf_algebra.specs.Multiples.{negative}
-use Rattle.sf_algebra.specs.Primes.{IsPrime}
 use Rattle.sf_algebra.specs.Rings.{Ring, IsRing, IsOverField}
-use Rattle.sf_algebra.specs.Sums.{add}
-use Rattle.sf_algebra.specs.Terms.{Term, IsCanonical}
-use Rattle.sf_algebra.specs.VectorOperations.{row_sum, row_multiple}
+use Rattle.sf_algebra.specs.Terms.{Term}
+use Rattle.sf_algebra.specs.VectorOperations.{row_sum}
 use Rattle.sf_algebra.specs.Vectors.{Place, Vector, place_cmp, IsHomogeneous, IsVector, IsCanonicalRow}
 use Rattle.sf_algebra.proofs.Basics.Lists.{AllByRecursion-append, AllByRecursion-weaken}
-use Rattle.sf_algebra.proofs.Monomials.Orders.{place_cmp_linear, place_cmp_total}
+use Rattle.sf_algebra.proofs.Monomials.Orders.{place_cmp_total}
 use Rattle.sf_algebra.proofs.Monomials.Weights.{field_ring}
 use Rattle.sf_algebra.proofs.Multiplying.Keys.{place_keys}
 use Rattle.sf_algebra.proofs.Terms.Coefficients.{IsCanonical-tail}
 use Rattle.sf_algebra.proofs.Terms.Negatives.{EachPlace-negative}
 use Rattle.sf_algebra.proofs.Terms.Normal.{EachPlace-add, IsAboveEach}
-use Rattle.sf_algebra.proofs.Terms.Sums.{add_assoc, add-nil_first}
 use Rattle.sf_algebra.proofs.Vectors.Degrees.{IsHomogeneous-row_combination}
 use Rattle.sf_algebra.proofs.Vectors.HomogeneousVectors.{IsVector-add, IsVector-negative, IsVector-nil}
 use Rattle.sf_algebra.proofs.Vectors.RowSums.{row_sum-assoc, row_sum-nil_first}
@@ -34,7 +31,8 @@ use Rattle.sf_groebner.proofs.PairTheorems.Standard.{place_induction}
 use Rattle.sf_groebner.proofs.Uniqueness.Differences.{add-negative_first}
 use Rattle.sf_groebner.proofs.Uniqueness.Subtractions.{add-first, add-negative_back}
 
--- v is a rest, no term of which a lead divides, and a combination of the rows; what is greater than all of v is greater than both
+-- v is a rest, no term of which a lead divides, and a combination of the rows; what is greater than all of v is greater
+-- than both
 pub record Division (ring : Ring) (target : List ℤ) (rows : List Vector) (v : Vector) : Type 0 where
   pub rest : List (Term Place)
   pub quotients : List (Term Place)

@@ -1,15 +1,11 @@
 -- Each vector of a span has a lift: coefficients of it, reduced by the syzygies.
-use Rattle.std.proofs.Common.{◌≡◌, List, [], sym, ◌∙◌, ap, arith, ℕ, ◌<◌}
+use Rattle.std.proofs.Common.{◌≡◌, List, [], sym, ◌∙◌, ap}
 use Rattle.sf_algebra.specs.Matrices.{Matrix, IsMatrix, row_degrees}
 use Rattle.sf_algebra.specs.MatrixOperations.{row_combination}
-use Rattle.sf_algebra.specs.Primes.{IsPrime}
 use Rattle.sf_algebra.specs.Rings.{IsRing, IsOverField, Ring}
-use Rattle.sf_algebra.specs.Sums.{add}
 use Rattle.sf_algebra.specs.VectorOperations.{row_sum}
-use Rattle.sf_algebra.specs.Vectors.{Vector, place_cmp}
-use Rattle.sf_algebra.proofs.Monomials.Orders.{place_cmp_linear}
+use Rattle.sf_algebra.specs.Vectors.{Vector}
 use Rattle.sf_algebra.proofs.Monomials.Weights.{field_ring}
-use Rattle.sf_algebra.proofs.Terms.Sums.{add-nil}
 use Rattle.sf_algebra.proofs.Vectors.RowSums.{row_sum-nil}
 use Rattle.sf_algebra.proofs.Vectors.Rows.{IsCanonical-row_combination, row_combination-add}
 use Rattle.sf_groebner.specs.Lifts.{IsLift}

@@ -1,15 +1,14 @@
 -- Reduced bases of graphs, spans and syzygies, and the one answer for a limit.
-use Rattle.std.proofs.Common.{◌≡◌, ◌⊎◌, inl, inr, ℕ, ◌<◌, List, Option, Some, None, refl, ap, subst, arith, ℤ}
+use Rattle.std.proofs.Common.{◌≡◌, ◌⊎◌, inl, inr, ℕ, List, Option, Some, None, refl, ap, subst, ℤ}
 use Rattle.std.specs.List.{AllByRecursion}
 use Rattle.sf_algebra.specs.Bounds.{HasSmallSize}
 use Rattle.sf_algebra.specs.Matrices.{Matrix, IsMatrix}
-use Rattle.sf_algebra.specs.Primes.{IsPrime}
 use Rattle.sf_algebra.specs.Rings.{Ring, IsRing, IsOverField}
 use Rattle.sf_algebra.specs.Vectors.{Vector, IsVector}
 use Rattle.sf_algebra.proofs.Monomials.Weights.{field_ring}
 use Rattle.sf_groebner.specs.ReducedBases.{IsMonic, IsReducedBasis, IsSpanBasis, IsSyzygyBasis, IsGraphBasis}
 use Rattle.sf_groebner.specs.Small.{IsLarge, IsSmall, IsWithinLimit, IsAnswer}
-use Rattle.sf_groebner.specs.Spans.{InSpan, IsGraphVector, IsSyzygy, graph_degrees}
+use Rattle.sf_groebner.specs.Spans.{IsGraphVector, graph_degrees}
 use Rattle.sf_groebner.proofs.Basics.Decisions.{IsDecided, decide_small_size, decide_within_limit}
 use Rattle.sf_groebner.proofs.Basics.Items.{AllByRecursion-both}
 use Rattle.sf_groebner.proofs.Constructions.MonicVectors.{IsMonicVector}

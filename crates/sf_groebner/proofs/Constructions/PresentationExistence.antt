@@ -1,9 +1,8 @@
 -- Modules with reduced bases have presentations modulo spans: homology, kernels, images and cokernels.
-use Rattle.std.proofs.Common.{◌≡◌, ℕ, ◌<◌, List, length, refl, sym, ◌∙◌, subst, arith, ℤ}
+use Rattle.std.proofs.Common.{◌≡◌, List, length, refl, sym, ◌∙◌, subst, ℤ}
 use Rattle.std.specs.List.{AllByRecursion}
 use Rattle.sf_algebra.specs.Matrices.{Matrix, IsMatrix, row_degrees}
 use Rattle.sf_algebra.specs.MatrixOperations.{identity, stacked}
-use Rattle.sf_algebra.specs.Primes.{IsPrime}
 use Rattle.sf_algebra.specs.Rings.{Ring, Weights, IsRing, IsOverField}
 use Rattle.sf_algebra.specs.Vectors.{Vector, IsVector}
 use Rattle.sf_algebra.proofs.GradedMatrices.Identities.{IsMatrix-identity, row_degrees-identity}

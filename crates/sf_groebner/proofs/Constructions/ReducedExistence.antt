@@ -1,7 +1,7 @@
--- Each finitely generated module has a reduced basis. (Cox, Little, O'Shea, "Using Algebraic Geometry", chapter 5, section 2.)
-use Rattle.std.proofs.Common.{◌≡◌, true, ℕ, List, [], ◌∷◌, ◌∙◌, ℤ}
+-- Each finitely generated module has a reduced basis. (Cox, Little, O'Shea, "Using Algebraic Geometry", chapter 5,
+-- section 2.)
+use Rattle.std.proofs.Common.{◌≡◌, true, List, [], ◌∷◌, ◌∙◌, ℤ}
 use Rattle.std.specs.List.{AllByRecursion}
-use Rattle.sf_algebra.specs.Primes.{IsPrime}
 use Rattle.sf_algebra.specs.Rings.{Ring, IsOverField}
 use Rattle.sf_algebra.specs.Terms.{Term}
 use Rattle.sf_algebra.specs.Vectors.{Place, Vector}

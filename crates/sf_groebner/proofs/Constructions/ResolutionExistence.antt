@@ -1,7 +1,6 @@
 -- Presented modules have resolutions of each length.
-use Rattle.std.proofs.Common.{◌≡◌, ℕ, zero, suc, ◌<◌, List, [], ◌∷◌, length, refl, ap, arith}
+use Rattle.std.proofs.Common.{◌≡◌, ℕ, zero, suc, List, [], ◌∷◌, length, refl, ap}
 use Rattle.sf_algebra.specs.Matrices.{Matrix, IsMatrix, row_degrees}
-use Rattle.sf_algebra.specs.Primes.{IsPrime}
 use Rattle.sf_algebra.specs.Rings.{IsRing, IsOverField}
 use Rattle.sf_algebra.proofs.Monomials.Weights.{field_ring}
 use Rattle.sf_groebner.specs.MinimalGenerators.{matrix_of}

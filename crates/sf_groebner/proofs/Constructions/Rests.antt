@@ -1,25 +1,23 @@
 -- The one rest of a vector by the reduced basis of a span, which is none exactly where the vector is in the span.
-use Rattle.std.proofs.Common.{◌≡◌, ◌↔◌, ℕ, ◌<◌, List, [], refl, sym, ◌∙◌, ap, subst, arith}
+use Rattle.std.proofs.Common.{◌≡◌, ◌↔◌, List, [], refl, sym, ◌∙◌, ap, subst}
 use Rattle.sf_algebra.specs.Matrices.{Matrix, IsMatrix, degrees_of}
 use Rattle.sf_algebra.specs.MatrixOperations.{row_combination}
 use Rattle.sf_algebra.specs.Multiples.{negative}
-use Rattle.sf_algebra.specs.Primes.{IsPrime}
 use Rattle.sf_algebra.specs.Rings.{Ring, IsRing, IsOverField}
-use Rattle.sf_algebra.specs.Sums.{add, normal}
-use Rattle.sf_algebra.specs.Terms.{Term, IsCanonical}
+use Rattle.sf_algebra.specs.Sums.{normal}
+use Rattle.sf_algebra.specs.Terms.{Term}
 use Rattle.sf_algebra.specs.VectorOperations.{row_sum, vector_difference}
 use Rattle.sf_algebra.specs.Vectors.{Place, Vector, place_cmp, IsVector, IsCanonicalRow}
 use Rattle.sf_algebra.proofs.Monomials.Orders.{place_cmp_linear}
 use Rattle.sf_algebra.proofs.Monomials.Weights.{field_ring}
 use Rattle.sf_algebra.proofs.Multiplying.Keys.{place_keys}
 use Rattle.sf_algebra.proofs.Terms.Normal.{IsCanonical-normal}
-use Rattle.sf_algebra.proofs.Terms.Sums.{add_assoc, add_comm, add-nil_first}
 use Rattle.sf_algebra.proofs.Vectors.Degrees.{IsHomogeneous-normal}
 use Rattle.sf_algebra.proofs.Vectors.RowSums.{row_sum-comm, row_sum-assoc, row_sum-nil_first}
 use Rattle.sf_algebra.proofs.Vectors.Rows.{IsCanonical-row_combination}
 use Rattle.sf_groebner.specs.Divisions.{IsDivision}
 use Rattle.sf_groebner.specs.Presentations.{IsReducedByRelations}
-use Rattle.sf_groebner.specs.ReducedBases.{HasDividedLead, IsReducedBasis, IsSpanBasis}
+use Rattle.sf_groebner.specs.ReducedBases.{HasDividedLead, IsSpanBasis}
 use Rattle.sf_groebner.specs.Spans.{InSpan}
 use Rattle.sf_groebner.proofs.Constructions.Divisions.{divide}
 use Rattle.sf_groebner.proofs.Constructions.MatrixBases.{basis-monic, span_basis}

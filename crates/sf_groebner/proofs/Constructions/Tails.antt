@@ -1,14 +1,13 @@
--- Rows whose tails are reduced by the leads of all rows. (Cox, Little, O'Shea, "Using Algebraic Geometry", chapter 5, section 2.)
-use Rattle.std.proofs.Common.{◌≡◌, false, ◌||◌, ℕ, ◌<◌, List, [], ◌∷◌, refl, sym, ◌∙◌, ap, subst, arith, ℤ}
+-- Rows whose tails are reduced by the leads of all rows. (Cox, Little, O'Shea, "Using Algebraic Geometry", chapter 5,
+-- section 2.)
+use Rattle.std.proofs.Common.{◌≡◌, false, ◌||◌, List, [], ◌∷◌, refl, sym, ◌∙◌, ap, subst, ℤ}
 use Rattle.std.specs.List.{AllByRecursion}
 use Rattle.sf_algebra.specs.MatrixOperations.{row_combination}
 use Rattle.sf_algebra.specs.Multiples.{negative}
-use Rattle.sf_algebra.specs.Primes.{IsPrime}
 use Rattle.sf_algebra.specs.Rings.{Ring, IsRing, IsOverField}
-use Rattle.sf_algebra.specs.Sums.{add}
-use Rattle.sf_algebra.specs.Terms.{Term, IsCanonical}
+use Rattle.sf_algebra.specs.Terms.{Term}
 use Rattle.sf_algebra.specs.VectorOperations.{row_sum}
-use Rattle.sf_algebra.specs.Vectors.{Place, Vector, place_cmp, IsVector, IsCanonicalRow}
+use Rattle.sf_algebra.specs.Vectors.{Place, Vector, IsVector, IsCanonicalRow}
 use Rattle.sf_algebra.proofs.Basics.Lists.{AllByRecursion-weaken}
 use Rattle.sf_algebra.proofs.Monomials.Weights.{field_ring}
 use Rattle.sf_algebra.proofs.Multiplying.Keys.{place_keys}

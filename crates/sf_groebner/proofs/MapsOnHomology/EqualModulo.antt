@@ -1,17 +1,15 @@
 -- Vectors that are equal modulo a module.
-use Rattle.std.proofs.Common.{◌≡◌, ℕ, ◌<◌, List, refl, ◌∙◌, ap, subst, ℤ}
+use Rattle.std.proofs.Common.{◌≡◌, List, refl, ◌∙◌, ap, subst, ℤ}
 use Rattle.sf_algebra.specs.Groups.{Group}
 use Rattle.sf_algebra.specs.Matrices.{Matrix}
 use Rattle.sf_algebra.specs.Multiples.{negative}
 use Rattle.sf_algebra.specs.Rings.{Ring, IsRing}
-use Rattle.sf_algebra.specs.Sums.{add}
-use Rattle.sf_algebra.specs.Terms.{Term, IsCanonical}
+use Rattle.sf_algebra.specs.Terms.{Term}
 use Rattle.sf_algebra.specs.VectorOperations.{row_sum, vector_difference}
-use Rattle.sf_algebra.specs.Vectors.{Place, Vector, place_cmp, IsCanonicalRow}
+use Rattle.sf_algebra.specs.Vectors.{Place, Vector, IsCanonicalRow}
 use Rattle.sf_algebra.proofs.Operators.Groups.{left, minus-difference, difference-plus}
-use Rattle.sf_algebra.proofs.Vectors.Rows.{row_combination-add, row_combination-multiple}
 use Rattle.sf_algebra.proofs.Vectors.VectorGroups.{vectors}
-use Rattle.sf_groebner.specs.Maps.{AreEqualModulo, ActsOnClasses}
+use Rattle.sf_groebner.specs.Maps.{AreEqualModulo}
 use Rattle.sf_groebner.specs.Spans.{combined}
 use Rattle.sf_groebner.proofs.Spanning.Modules.{IsModuleLike}
 use Rattle.sf_groebner.proofs.Spanning.Spans.{combined-difference}

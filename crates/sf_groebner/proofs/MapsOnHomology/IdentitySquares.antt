@@ -1,12 +1,11 @@
 -- The identities are a square of each map, and maps of each complex.
-use Rattle.std.proofs.Common.{◌≡◌, ℕ, ◌<◌, List, refl, sym, ◌∙◌, ap, subst, arith, ℤ}
+use Rattle.std.proofs.Common.{◌≡◌, ◌<◌, List, refl, sym, ◌∙◌, ap, subst, ℤ}
 use Rattle.sf_algebra.specs.Matrices.{Matrix, row_degrees}
 use Rattle.sf_algebra.specs.MatrixOperations.{identity}
 use Rattle.sf_algebra.specs.Multiples.{negative}
 use Rattle.sf_algebra.specs.Rings.{Ring, IsRing}
-use Rattle.sf_algebra.specs.Sums.{add}
 use Rattle.sf_algebra.specs.VectorOperations.{row_sum}
-use Rattle.sf_algebra.specs.Vectors.{Vector, place_cmp, IsVector}
+use Rattle.sf_algebra.specs.Vectors.{Vector, IsVector}
 use Rattle.sf_algebra.proofs.GradedMatrices.Identities.{IsMatrix-identity, row_degrees-identity}
 use Rattle.sf_algebra.proofs.Multiplying.Keys.{place_keys}
 use Rattle.sf_algebra.proofs.Terms.Negatives.{add-negative}

@@ -1,16 +1,13 @@
--- Squares of maps that commute modulo relations: the upper map's cycles go to the lower map's, and the span of the upper map and
--- its relations goes into that of the lower ones.
-use Rattle.std.proofs.Common.{◌≡◌, ℕ, ◌<◌, List, refl, sym, ◌∙◌, ap, subst, ℤ}
+-- Squares of maps that commute modulo relations: the upper map's cycles go to the lower map's, and the span of the
+-- upper map and its relations goes into that of the lower ones.
+use Rattle.std.proofs.Common.{◌≡◌, List, refl, sym, ◌∙◌, ap, subst, ℤ}
 use Rattle.sf_algebra.specs.Matrices.{Matrix, row_degrees, IsMatrix}
 use Rattle.sf_algebra.specs.MatrixOperations.{row_combination, stacked}
 use Rattle.sf_algebra.specs.Multiples.{negative}
 use Rattle.sf_algebra.specs.Rings.{Ring, IsRing}
-use Rattle.sf_algebra.specs.Sums.{add}
-use Rattle.sf_algebra.specs.Terms.{Term, IsCanonical}
+use Rattle.sf_algebra.specs.Terms.{Term}
 use Rattle.sf_algebra.specs.VectorOperations.{row_sum}
-use Rattle.sf_algebra.specs.Vectors.{Place, Vector, place_cmp, IsVector, IsCanonicalRow}
-use Rattle.sf_algebra.proofs.Monomials.Orders.{place_cmp_linear}
-use Rattle.sf_algebra.proofs.Terms.Sums.{add_assoc}
+use Rattle.sf_algebra.specs.Vectors.{Place, Vector, IsVector, IsCanonicalRow}
 use Rattle.sf_algebra.proofs.Vectors.HomogeneousVectors.{IsVector-row_combination}
 use Rattle.sf_algebra.proofs.Vectors.RowSums.{row_sum-assoc}
 use Rattle.sf_algebra.proofs.Vectors.Rows.{IsCanonical-row_combination, row_combination-add}

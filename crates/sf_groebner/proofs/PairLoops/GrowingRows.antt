@@ -1,24 +1,21 @@
--- A list of rows that grows: pairs that reduce to zero still do, and a division of an S-vector whose rest is 0, or a new row's
--- multiple, makes its pair reduce to zero.
+-- A list of rows that grows: pairs that reduce to zero still do, and a division of an S-vector whose rest is 0, or a
+-- new row's multiple, makes its pair reduce to zero.
 use Rattle.std.proofs.Common.{◌≡◌, ℕ, ◌<◌, List, [], ◌∷◌, ◌++◌, length, sym, ◌∙◌, ap, subst, arith, length-append}
 use Rattle.std.specs.declared.cmp.Ordering.TheVariants.{Less}
 use Rattle.std.specs.List.{AllByRecursion}
 use Rattle.sf_algebra.specs.Divisibility.{quotient, lcm}
 use Rattle.sf_algebra.specs.MatrixOperations.{row_at, row_combination}
 use Rattle.sf_algebra.specs.Monomials.{one}
-use Rattle.sf_algebra.specs.Multiples.{place_product, multiple}
+use Rattle.sf_algebra.specs.Multiples.{place_product}
 use Rattle.sf_algebra.specs.Residues.{negative_mod}
 use Rattle.sf_algebra.specs.Rings.{Ring, Weights, IsRing}
-use Rattle.sf_algebra.specs.Sums.{add}
 use Rattle.sf_algebra.specs.Terms.{Term}
 use Rattle.sf_algebra.specs.VectorOperations.{row_sum, row_multiple}
 use Rattle.sf_algebra.specs.Vectors.{Place, Vector, place_cmp}
 use Rattle.sf_algebra.proofs.Basics.Lists.{AllByRecursion-append, AllByRecursion-weaken}
-use Rattle.sf_algebra.proofs.Monomials.Orders.{place_cmp_linear}
 use Rattle.sf_algebra.proofs.Monomials.Places.{place_product-one}
 use Rattle.sf_algebra.proofs.Multiplying.CombinationLaws.{combination-rows}
 use Rattle.sf_algebra.proofs.Multiplying.Keys.{place_keys}
-use Rattle.sf_algebra.proofs.Terms.Sums.{add-nil_first, add_comm}
 use Rattle.sf_algebra.proofs.Vectors.RowSums.{row_sum-comm, row_sum-nil_first}
 use Rattle.sf_algebra.proofs.Vectors.Rows.{IsCanonical-row_combination, row_at-append_first, row_at-append_second, row_combination-append, row_combination-one}
 use Rattle.sf_groebner.specs.Criterion.{HasMultipleBelow, IsForRows, ReducesToZero, lcm_place, lead_at, lead_place, s_coefficients, s_vector}

@@ -1,5 +1,5 @@
 -- The chain criterion over all pairs that a computation handled.
-use Rattle.std.proofs.Common.{◌⊎◌, ⊎_elim, inl, inr, ℕ, ◌<◌, List, [], ◌∷◌, sym, ◌∙◌, subst}
+use Rattle.std.proofs.Common.{◌⊎◌, ⊎_elim, inl, inr, ℕ, List, [], ◌∷◌, sym, ◌∙◌, subst}
 use Rattle.sf_algebra.specs.Rings.{Ring, IsRing}
 use Rattle.sf_algebra.specs.Vectors.{Vector}
 use Rattle.sf_groebner.specs.Criterion.{HaveLeadsAtOnePosition, ReducesToZero, lcm_place, lead_at}

@@ -1,5 +1,5 @@
 -- Where only pairs of greater degrees wait, homogeneous rows are complete up to a degree.
-use Rattle.std.proofs.Common.{⊎_elim, ℕ, ◌<◌, List, ℤ, ◌≤ℤ◌}
+use Rattle.std.proofs.Common.{⊎_elim, ℕ, List, ℤ, ◌≤ℤ◌}
 use Rattle.std.specs.List.{AllByRecursion}
 use Rattle.sf_algebra.specs.Matrices.{Matrix, IsMatrix}
 use Rattle.sf_algebra.specs.MatrixOperations.{row_combination}

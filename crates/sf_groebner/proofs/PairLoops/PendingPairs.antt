@@ -112,7 +112,8 @@ module _ (ring : Ring) (positive : IsRing ring) (rows : List Vector) where
       strict : (m n : ℕ) → m ≤ n → m ≢ n → m < n
       strict m n le ne = omega arith
 
-  -- the chain criterion: the last pair may be dropped where the lead of a row divides its least common multiple, and its pairs with that row do not wait
+  -- the chain criterion: the last pair may be dropped where the lead of a row divides its least common multiple, and
+  -- its pairs with that row do not wait
   pub IsPending-chain : (left : List (ℕ × ℕ)) (i j k : ℕ) → IsPending ring rows (left ++ (i, k) ∷ []) → IsPair rows i k
       → j < length rows → PlaceDivides (lead_at rows j) (lcm_place (lead_at rows) i k)
       → i ≢ j → j ≢ k → (IsWaiting i j left → ⊥) → (IsWaiting j i left → ⊥) → (IsWaiting j k left → ⊥)

@@ -1,5 +1,5 @@
--- Buchberger's criterion for homogeneous rows up to a degree: only the pairs count whose least common multiple is of that degree
--- or less. (Cox, Little, O'Shea, "Using Algebraic Geometry", chapter 5, section 2.)
+-- Buchberger's criterion for homogeneous rows up to a degree: only the pairs count whose least common multiple is of
+-- that degree or less. (Cox, Little, O'Shea, "Using Algebraic Geometry", chapter 5, section 2.)
 use Rattle.std.proofs.Common.{◌≡◌, ℕ, ◌<◌, length, refl, sym, ◌∙◌, ap, subst, arith, ℤ, pos, ◌+ℤ◌, ◌≤ℤ◌}
 use Rattle.std.specs.List.{AllByRecursion}
 use Rattle.std.proofs.lemmas.Int.{ints}

@@ -1,5 +1,5 @@
--- Buchberger's criterion: where the pairs of monic rows reduce to zero, each combination of the rows has a lead that the lead of
--- a row divides. (Cox, Little, O'Shea, "Using Algebraic Geometry", chapter 5, section 2.)
+-- Buchberger's criterion: where the pairs of monic rows reduce to zero, each combination of the rows has a lead that
+-- the lead of a row divides. (Cox, Little, O'Shea, "Using Algebraic Geometry", chapter 5, section 2.)
 use Rattle.std.proofs.Common.{◌≡◌, ⊎_elim, ℕ, ◌<◌, List, [], length, sym, ◌∙◌, subst}
 use Rattle.std.specs.List.{AllByRecursion}
 use Rattle.sf_algebra.specs.MatrixOperations.{row_combination}
@@ -47,7 +47,8 @@ module _ (ring : Ring) (positive : IsRing ring) (rows : List Vector) where
       ReducesToZero-IsSettled j i (sym positions)
       (IsSettled-turn ring positive (IsZero ring positive rows) (IsZero-module ring positive rows) (IsInside rows) (lead_at rows) i j positions (IsSettled-ReducesToZero i j positions h))
 
-  -- the chain criterion: a pair reduces to zero where the lead of a row divides its least common multiple, and the pairs with that row do
+  -- the chain criterion: a pair reduces to zero where the lead of a row divides its least common multiple, and the
+  -- pairs with that row do
   pub ReducesToZero-chain : (i j k : ℕ) → HaveLeadsAtOnePosition rows i k
       → PlaceDivides (lead_at rows j) (lcm_place (lead_at rows) i k)
       → ReducesToZero ring rows i j → ReducesToZero ring rows j k → ReducesToZero ring rows i k

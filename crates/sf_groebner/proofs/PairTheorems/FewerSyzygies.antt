@@ -1,5 +1,5 @@
--- Schreyer's theorem with the chain criterion: pairs that the criterion drops need no syzygy. (Cox, Little, O'Shea, "Using Algebraic
--- Geometry", chapter 5, section 3.)
+-- Schreyer's theorem with the chain criterion: pairs that the criterion drops need no syzygy. (Cox, Little, O'Shea,
+-- "Using Algebraic Geometry", chapter 5, section 3.)
 use Rattle.std.proofs.Common.{◌≡◌, ℕ, ◌<◌, List, [], ◌∷◌, length, ⊎_elim, inl, inr}
 use Rattle.std.specs.List.{AllByRecursion}
 use Rattle.sf_algebra.specs.MatrixOperations.{row_at, row_combination}

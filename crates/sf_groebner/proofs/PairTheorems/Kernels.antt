@@ -1,11 +1,11 @@
--- The combinations that are 0, as a set that settles pairs: a pair of rows is settled there exactly where it reduces to zero.
-use Rattle.std.proofs.Common.{◌≡◌, ℕ, ◌<◌, List, [], ◌∷◌, ◌++◌, map, sym, ◌∙◌, ap, subst, append-nil, append_assoc}
+-- The combinations that are 0, as a set that settles pairs: a pair of rows is settled there exactly where it reduces to
+-- zero.
+use Rattle.std.proofs.Common.{◌≡◌, ℕ, List, [], ◌∷◌, ◌++◌, map, sym, ◌∙◌, ap, subst, append-nil, append_assoc}
 use Rattle.sf_algebra.specs.MatrixOperations.{row_at, row_combination}
 use Rattle.sf_algebra.specs.Monomials.{Monomial}
 use Rattle.sf_algebra.specs.Multiples.{place_product, term_product, multiple}
 use Rattle.sf_algebra.specs.Residues.{negative_mod}
 use Rattle.sf_algebra.specs.Rings.{Ring, IsRing}
-use Rattle.sf_algebra.specs.Sums.{add}
 use Rattle.sf_algebra.specs.Terms.{Term}
 use Rattle.sf_algebra.specs.VectorOperations.{row_sum, row_multiple}
 use Rattle.sf_algebra.specs.Vectors.{Place, Vector, place_cmp}
@@ -14,7 +14,7 @@ use Rattle.sf_algebra.proofs.Multiplying.Keys.{place_keys}
 use Rattle.sf_algebra.proofs.Terms.Negatives.{negative_one_term}
 use Rattle.sf_algebra.proofs.Terms.Normal.{EachPlace}
 use Rattle.sf_algebra.proofs.Terms.SameTotals.{SameTotals, SameTotals-append, SameTotals-equal, SameTotals-negative, SameTotals-normal, SameTotals-refl, SameTotals-swap, SameTotals-sym, SameTotals-trans, combination-SameTotals}
-use Rattle.sf_algebra.proofs.Terms.Sums.{add-nil, normal-nil}
+use Rattle.sf_algebra.proofs.Terms.Sums.{normal-nil}
 use Rattle.sf_algebra.proofs.Vectors.RowSums.{row_sum-nil}
 use Rattle.sf_algebra.proofs.Vectors.Rows.{IsCanonical-row_combination, row_combination-append, row_combination-multiple, row_combination-nil}
 use Rattle.sf_groebner.specs.Criterion.{lcm_place, pair_place, s_coefficients}

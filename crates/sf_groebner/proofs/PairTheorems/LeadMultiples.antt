@@ -1,6 +1,6 @@
 -- Rows that begin with the coefficient 1, the images of places of coefficients, and pairs of places that are settled. A
--- combination is held as a list of terms in any order, whose positions count the rows. (Cox, Little, O'Shea, "Using Algebraic
--- Geometry", chapter 5, sections 2 and 3.)
+-- combination is held as a list of terms in any order, whose positions count the rows. (Cox, Little, O'Shea, "Using
+-- Algebraic Geometry", chapter 5, sections 2 and 3.)
 use Rattle.std.proofs.Common.{◌≡◌, ◌≢◌, ℕ, ◌<◌, List, [], ◌∷◌, ◌++◌, if◌then◌else◌, map}
 use Rattle.std.specs.declared.cmp.Ordering.TheVariants.{Less, Greater}
 use Rattle.std.specs.Ordering.{is_eq}

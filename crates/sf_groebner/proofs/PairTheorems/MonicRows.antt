@@ -6,7 +6,7 @@ use Rattle.sf_algebra.specs.MatrixOperations.{row_at}
 use Rattle.sf_algebra.specs.Monomials.{Monomial}
 use Rattle.sf_algebra.specs.Multiples.{place_product}
 use Rattle.sf_algebra.specs.Rings.{Ring}
-use Rattle.sf_algebra.specs.Terms.{Term, IsCanonical}
+use Rattle.sf_algebra.specs.Terms.{Term}
 use Rattle.sf_algebra.specs.Vectors.{Place, Vector, place_cmp, IsCanonicalRow}
 use Rattle.sf_groebner.specs.Criterion.{IsMonicRow, lead_multiple, lead_at, lead_place}
 use Rattle.sf_groebner.specs.ReducedBases.{HasDividedLead, IsMonic, is_divided, lead_divides}

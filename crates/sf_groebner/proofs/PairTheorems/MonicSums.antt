@@ -1,14 +1,14 @@
--- Monic rows whose pairs reduce to zero: a vector whose lead none of theirs divides is no sum of them; one row has no syzygies.
+-- Monic rows whose pairs reduce to zero: a vector whose lead none of theirs divides is no sum of them; one row has no
+-- syzygies.
 use Rattle.std.proofs.Common.{◌≡◌, ℕ, ◌<◌, List, [], ◌∷◌, length, sym, ◌∙◌, ap, subst, ℤ, arith}
 use Rattle.std.specs.List.{AllByRecursion}
 use Rattle.sf_algebra.specs.MatrixOperations.{row_combination}
 use Rattle.sf_algebra.specs.Rings.{Ring, IsRing}
-use Rattle.sf_algebra.specs.Sums.{add}
-use Rattle.sf_algebra.specs.Terms.{Term, IsCanonical}
+use Rattle.sf_algebra.specs.Terms.{Term}
 use Rattle.sf_algebra.specs.VectorOperations.{row_sum}
 use Rattle.sf_algebra.specs.Vectors.{Place, Vector, place_cmp, IsCanonicalRow}
 use Rattle.sf_algebra.proofs.Monomials.Orders.{place_cmp_linear}
-use Rattle.sf_algebra.proofs.Terms.Sums.{add-nil_first, normal-canonical}
+use Rattle.sf_algebra.proofs.Terms.Sums.{normal-canonical}
 use Rattle.sf_algebra.proofs.Vectors.RowSums.{row_sum-nil_first}
 use Rattle.sf_algebra.proofs.Vectors.Rows.{IsCanonical-row_combination}
 use Rattle.sf_groebner.specs.Criterion.{HaveLeadsAtOnePosition, IsForRows, IsMonicRow, ReducesToZero}

@@ -42,10 +42,10 @@ place_degree-lead weights target d (t ∷ ts) monic h = h.0.1
 
 module _ (m : Matrix) (is_matrix : IsMatrix m) (monic : AllByRecursion (IsMonicRow m.ring) m.rows) where
   -- an image has the degree of the coefficient's place
-  pub place_degree-image : (k : Place) → k.position < length m.rows
+  pub place_degree-lead_multiple : (k : Place) → k.position < length m.rows
       → place_degree m.ring.weights m.target (lead_multiple (lead_at m.rows) k)
       ≡ place_degree m.ring.weights (row_degrees m) k
-  place_degree-image k within =
+  place_degree-lead_multiple k within =
       place_degree-product m.ring.weights m.target k.monomial (lead_at m.rows k.position)
       ∙ ap (λ d. d +ℤ pos (monomial_degree m.ring.weights k.monomial))
       (sym
@@ -57,7 +57,7 @@ module _ (m : Matrix) (is_matrix : IsMatrix m) (monic : AllByRecursion (IsMonicR
       → place_degree m.ring.weights (row_degrees m) (pair_place (lead_at m.rows) i j)
       ≡ place_degree m.ring.weights m.target (lcm_place (lead_at m.rows) i j)
   place_degree-pair_place i j within =
-      sym (place_degree-image (pair_place (lead_at m.rows) i j) within)
+      sym (place_degree-lead_multiple (pair_place (lead_at m.rows) i j) within)
       ∙ ap (place_degree m.ring.weights m.target) (lead_multiple-pair_place (lead_at m.rows) i j)
 
   module _ (positive : IsRing m.ring) (i j : ℕ) (i_in : i < length m.rows) (j_in : j < length m.rows)
@@ -66,9 +66,9 @@ module _ (m : Matrix) (is_matrix : IsMatrix m) (monic : AllByRecursion (IsMonicR
     within : (k : ℕ) → k < length m.rows → k < length (row_degrees m)
     within k h = simp length-map h
 
-    pub IsHomogeneous-pair_terms : IsHomogeneous m.ring.weights (row_degrees m) f
+    pub IsHomogeneous-s_coefficients : IsHomogeneous m.ring.weights (row_degrees m) f
         (s_coefficients m.ring.modulus (lead_at m.rows) i j)
-    IsHomogeneous-pair_terms = (
+    IsHomogeneous-s_coefficients = (
       (within i i_in, of_pair),
       (
         (
@@ -86,7 +86,7 @@ module _ (m : Matrix) (is_matrix : IsMatrix m) (monic : AllByRecursion (IsMonicR
     pub ReducesToZero-degree : ReducesToZero m.ring m.rows i j → (r : ReducesToZero m.ring m.rows i j) × IsHomogeneous m.ring.weights (row_degrees m) f r.steps
     ReducesToZero-degree h =
         let rows_homogeneous = HasHomogeneousRows-from_IsMatrix m is_matrix in
-        let pair_homogeneous = IsHomogeneous-row_combination m.target m.ring m.rows rows_homogeneous f (s_coefficients m.ring.modulus (lead_at m.rows) i j) IsHomogeneous-pair_terms in (
+        let pair_homogeneous = IsHomogeneous-row_combination m.target m.ring m.rows rows_homogeneous f (s_coefficients m.ring.modulus (lead_at m.rows) i j) IsHomogeneous-s_coefficients in (
           record {
             steps = degree_part m.ring.weights (row_degrees m) f h.steps;
             below = AllByRecursion-filter_keeps _ (has_degree m.ring.weights (row_degrees m) f) h.steps h.below;

@@ -19,7 +19,7 @@ use Rattle.sf_groebner.specs.Criterion.{HaveLeadsAtOnePosition, IsMonicRow, IsPa
 use Rattle.sf_groebner.specs.Spans.{IsSyzygy}
 use Rattle.sf_groebner.proofs.PairTheorems.Kernels.{row_combination-SameTotals, row_combination-append_zero_first, row_combination-difference}
 use Rattle.sf_groebner.proofs.PairTheorems.Multiplied.{EachPlace-constant}
-use Rattle.sf_groebner.proofs.PairTheorems.PairDegrees.{HasPlaceOfDegree, IsHomogeneous-pair_terms, ReducesToZero-degree}
+use Rattle.sf_groebner.proofs.PairTheorems.PairDegrees.{HasPlaceOfDegree, IsHomogeneous-s_coefficients, ReducesToZero-degree}
 use Rattle.sf_groebner.proofs.PairTheorems.Schreyer.{SameTotals-from_sum}
 
 module _ (ring : Ring) (positive : IsRing ring) (rows : List Vector) (i j : ℕ) where
@@ -85,7 +85,7 @@ homogeneous_syzygy m is_matrix monic positive i j i_in j_in positions h =
           homogeneous =
               IsHomogeneous-normal (row_degrees m) m.ring d (pair_difference m.ring positive m.rows i j r.0.steps)
               (AllByRecursion-append (IsTermOfDegree m.ring.weights (row_degrees m) d) (s_coefficients m.ring.modulus (lead_at m.rows) i j) _
-              (IsHomogeneous-pair_terms m is_matrix monic positive i j i_in j_in positions d refl)
+              (IsHomogeneous-s_coefficients m is_matrix monic positive i j i_in j_in positions d refl)
               (EachPlace-constant (HasPlaceOfDegree m.ring.weights (row_degrees m) d) m.ring.modulus _ r.0.steps r.1));
         };
         zero = syzygy.zero;

@@ -1,4 +1,5 @@
--- Pairs of rows: where they are settled at the least common multiples of their leads, all pairs of places with one image are.
+-- Pairs of rows: where they are settled at the least common multiples of their leads, all pairs of places with one
+-- image are.
 use Rattle.std.proofs.Common.{◌≡◌, inl, inr, ℕ, ◌<◌, List, sym, ◌∙◌, ap, subst, arith}
 use Rattle.std.proofs.lemmas.Bool.{cases_lt}
 use Rattle.sf_algebra.specs.Divisibility.{quotient, lcm}
@@ -112,7 +113,8 @@ module _ (ring : Ring) (S : List (Term Place) → Type 0) (is_module : IsModule 
         ]
       ]
 
--- the chain criterion: a pair is settled where the lead of a row divides its least common multiple, and its pairs with that row are settled
+-- the chain criterion: a pair is settled where the lead of a row divides its least common multiple, and its pairs with
+-- that row are settled
 pub IsSettled-chain : (ring : Ring) (S : List (Term Place) → Type 0) → IsModule ring.modulus S
     → (In : ℕ → Type 0) (lead : ℕ → Place) (i j k : ℕ)
     → (lead i).position ≡ (lead k).position → PlaceDivides (lead j) (lcm_place lead i k)

@@ -7,7 +7,7 @@ use Rattle.std.specs.List.{AllByRecursion}
 use Rattle.sf_algebra.specs.Residues.{sum_mod, negative_mod}
 use Rattle.sf_algebra.specs.Rings.{Ring, IsRing}
 use Rattle.sf_algebra.specs.Sums.{total, coefficient_at}
-use Rattle.sf_algebra.specs.Terms.{Term, IsCanonical}
+use Rattle.sf_algebra.specs.Terms.{Term}
 use Rattle.sf_algebra.specs.Vectors.{Place, Vector, place_cmp, IsCanonicalRow}
 use Rattle.sf_algebra.proofs.Arithmetic.Residues.{sum_mod-second, sum_mod-zero}
 use Rattle.sf_algebra.proofs.Basics.Lists.{AllByRecursion-weaken}

@@ -1,22 +1,21 @@
 -- The theorem behind Buchberger's criterion and Schreyer's theorem: where pairs of places with one image are settled by a
--- module S of combinations that are 0, each combination is in S, or begins at the image of some place. (Cox, Little, O'Shea,
--- "Using Algebraic Geometry", chapter 5, sections 2 and 3.)
-use Rattle.std.proofs.Common.{◌≡◌, ◌⊎◌, inl, inr, ⊎_elim, ℕ, zero, suc, ◌<◌, List, [], ◌∷◌, ◌++◌, refl, sym, ◌∙◌, ap, subst}
+-- module S of combinations that are 0, each combination is in S, or begins at the image of some place. (Cox, Little,
+-- O'Shea, "Using Algebraic Geometry", chapter 5, sections 2 and 3.)
+use Rattle.std.proofs.Common.{◌≡◌, ◌⊎◌, inl, inr, ⊎_elim, ℕ, zero, suc, List, [], ◌∷◌, ◌++◌, refl, sym, ◌∙◌, ap, subst}
 use Rattle.std.specs.declared.cmp.Ordering.TheVariants.{Less}
 use Rattle.std.specs.Ordering.{ordering_reverse}
 use mathlib.Core.WellFounded.{Acc}
 use Rattle.sf_algebra.specs.MatrixOperations.{row_at, row_combination}
 use Rattle.sf_algebra.specs.Rings.{Ring, Weights, IsPositive, IsRing}
-use Rattle.sf_algebra.specs.Sums.{add, total, coefficient_at}
+use Rattle.sf_algebra.specs.Sums.{total, coefficient_at}
 use Rattle.sf_algebra.specs.Terms.{Term}
 use Rattle.sf_algebra.specs.VectorOperations.{row_sum}
 use Rattle.sf_algebra.specs.Vectors.{Place, Vector, place_cmp}
 use Rattle.sf_algebra.proofs.Basics.Lists.{AllByRecursion-weaken}
-use Rattle.sf_algebra.proofs.Monomials.Orders.{ordering_cases, place_cmp_total, place_cmp_linear}
+use Rattle.sf_algebra.proofs.Monomials.Orders.{ordering_cases, place_cmp_total}
 use Rattle.sf_algebra.proofs.Multiplying.Keys.{place_keys}
 use Rattle.sf_algebra.proofs.Terms.Normal.{EachPlace}
 use Rattle.sf_algebra.proofs.Terms.SameTotals.{SameTotals, SameTotals-append, SameTotals-refl, SameTotals-sym, SameTotals-trans, SameTotals-zero, combination-SameTotals}
-use Rattle.sf_algebra.proofs.Terms.Sums.{add-nil}
 use Rattle.sf_algebra.proofs.Vectors.RowSums.{row_sum-nil}
 use Rattle.sf_algebra.proofs.Vectors.Rows.{IsCanonical-row_combination, row_combination-append}
 use Rattle.sf_groebner.specs.Criterion.{lead_multiple}

@@ -8,7 +8,7 @@ use Rattle.sf_algebra.specs.Multiples.{place_product, term_product, combination_
 use Rattle.sf_algebra.specs.Residues.{sum_mod, product_mod}
 use Rattle.sf_algebra.specs.Rings.{Ring}
 use Rattle.sf_algebra.specs.Sums.{total, part_at, coefficient_at}
-use Rattle.sf_algebra.specs.Terms.{Term, IsCanonical}
+use Rattle.sf_algebra.specs.Terms.{Term}
 use Rattle.sf_algebra.specs.Vectors.{Place, Vector, place_cmp, IsCanonicalRow}
 use Rattle.sf_algebra.proofs.Arithmetic.Residues.{product_mod-one, sum_mod-first, sum_mod-zero}
 use Rattle.sf_algebra.proofs.Basics.Lists.{AllByRecursion-append, AllByRecursion-weaken}

@@ -1,5 +1,5 @@
 -- The first and the last parts of a module's vectors, by a position that parts them.
-use Rattle.std.proofs.Common.{◌≡◌, Bool, true, false, not, ℕ, ◌<◌, List, [], ◌∷◌, length, slice_range, refl, sym, ◌∙◌, ap, subst, ℤ, arith}
+use Rattle.std.proofs.Common.{◌≡◌, Bool, true, false, not, ℕ, List, [], ◌∷◌, length, slice_range, refl, sym, ◌∙◌, ap, subst, ℤ, arith}
 use Rattle.std.specs.List.{AllByRecursion}
 use Rattle.sf_algebra.specs.MatrixOperations.{part_terms, vector_part}
 use Rattle.sf_algebra.specs.Rings.{Ring, IsRing}

@@ -1,5 +1,5 @@
 -- The coefficient part of a row of a graph's reduced basis is the lift of its value part.
-use Rattle.std.proofs.Common.{◌≡◌, true, not, ◌<◌, ◌+◌, List, [], ◌∷◌, filter, length, sym, ◌∙◌, ap, subst}
+use Rattle.std.proofs.Common.{◌≡◌, true, not, ◌+◌, List, [], ◌∷◌, filter, length, sym, ◌∙◌, ap, subst}
 use Rattle.std.specs.List.{AllByRecursion}
 use Rattle.sf_algebra.specs.Matrices.{Matrix}
 use Rattle.sf_algebra.specs.MatrixOperations.{part_terms, vector_part}
@@ -8,7 +8,7 @@ use Rattle.sf_algebra.specs.Vectors.{Vector}
 use Rattle.sf_algebra.proofs.Basics.Filters.{AllByRecursion-filter_keeps, AllByRecursion-filter}
 use Rattle.sf_groebner.specs.Cuts.{has_first_part, last_parts}
 use Rattle.sf_groebner.specs.Lifts.{IsLift}
-use Rattle.sf_groebner.specs.ReducedBases.{IsReducedBy, IsReducedBasis, IsGraphBasis}
+use Rattle.sf_groebner.specs.ReducedBases.{IsReducedBy, IsGraphBasis}
 use Rattle.sf_groebner.specs.Spans.{graph_degrees, IsGraphVector}
 use Rattle.sf_groebner.proofs.Basics.Items.{IsItem, AllByRecursion-item, AllByRecursion-from_items, AllByRecursion-both}
 use Rattle.sf_groebner.proofs.PartsOfBases.FirstParts.{IsLastPart, last_part}

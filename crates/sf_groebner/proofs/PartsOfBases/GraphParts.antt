@@ -1,5 +1,6 @@
--- The first parts of the graph's vectors are the span, the last ones the syzygies; a row's last part is the lift of its first.
-use Rattle.std.proofs.Common.{◌≡◌, ℕ, ◌+◌, ◌<◌, List, [], length, refl, sym, ◌∙◌, ap, subst, ℤ, arith}
+-- The first parts of the graph's vectors are the span, the last ones the syzygies; a row's last part is the lift of its
+-- first.
+use Rattle.std.proofs.Common.{◌≡◌, ℕ, ◌+◌, List, [], length, refl, sym, ◌∙◌, ap, subst, ℤ, arith}
 use Rattle.std.proofs.lemmas.List.{length-append, length-map}
 use Rattle.sf_algebra.specs.Matrices.{Matrix, row_degrees, IsMatrix}
 use Rattle.sf_algebra.specs.MatrixOperations.{row_combination, part_terms, vector_part}

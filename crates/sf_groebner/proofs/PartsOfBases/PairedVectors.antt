@@ -8,7 +8,7 @@ use Rattle.std.proofs.lemmas.Bool.{cases_lt}
 use Rattle.sf_algebra.specs.MatrixOperations.{part_terms, moved}
 use Rattle.sf_algebra.specs.Monomials.{monomial_degree}
 use Rattle.sf_algebra.specs.Rings.{Ring, Weights}
-use Rattle.sf_algebra.specs.Terms.{Term, IsDescending, IsCanonical}
+use Rattle.sf_algebra.specs.Terms.{Term, IsDescending}
 use Rattle.sf_algebra.specs.Vectors.{Place, place_cmp, IsTermOfDegree, IsHomogeneous, IsVector, IsCanonicalRow}
 use Rattle.sf_algebra.proofs.Basics.Lists.{AllByRecursion-append, AllByRecursion-weaken}
 use Rattle.sf_algebra.proofs.GradedMatrices.MatrixRows.{StandsWithin}

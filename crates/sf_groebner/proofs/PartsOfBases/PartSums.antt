@@ -1,11 +1,11 @@
 -- Sums and negatives of vectors at a range of positions.
-use Rattle.std.proofs.Common.{◌≡◌, ℕ, ◌%◌, ◌<◌, if◌then◌else◌, Bool, true, false, nat_le, nat_lt, ◌&&◌, List, [], ◌∷◌, inl, inr, refl, sym, ◌∙◌, ap, ap}
+use Rattle.std.proofs.Common.{◌≡◌, ℕ, ◌%◌, if◌then◌else◌, Bool, true, false, nat_le, nat_lt, ◌&&◌, List, [], ◌∷◌, inl, inr, refl, sym, ◌∙◌, ap, ap}
 use Rattle.std.proofs.Math.Nat.{zero-mod}
 use Rattle.sf_algebra.specs.MatrixOperations.{part_terms}
 use Rattle.sf_algebra.specs.Multiples.{negative, negative_term}
 use Rattle.sf_algebra.specs.Residues.{sum_mod}
 use Rattle.sf_algebra.specs.Rings.{Ring, IsRing}
-use Rattle.sf_algebra.specs.Sums.{add, total}
+use Rattle.sf_algebra.specs.Sums.{total}
 use Rattle.sf_algebra.specs.Terms.{Term}
 use Rattle.sf_algebra.specs.VectorOperations.{row_sum}
 use Rattle.sf_algebra.specs.Vectors.{Place, place_cmp}
@@ -15,7 +15,6 @@ use Rattle.sf_algebra.proofs.GradedMatrices.PartTerms.{moved_back, cases_between
 use Rattle.sf_algebra.proofs.Monomials.Orders.{place_cmp_linear}
 use Rattle.sf_algebra.proofs.Terms.Coefficients.{same_from_total}
 use Rattle.sf_algebra.proofs.Terms.DoubleTotals.{total-map}
-use Rattle.sf_algebra.proofs.Terms.Normal.{IsCanonical-add}
 use Rattle.sf_algebra.proofs.Terms.Totals.{IsAdditive, total-add}
 use Rattle.sf_algebra.proofs.Vectors.RowSums.{IsCanonical-row_sum}
 

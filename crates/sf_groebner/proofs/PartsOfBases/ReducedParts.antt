@@ -1,4 +1,5 @@
--- Parts of the elements of a reduced basis are a reduced basis of the module of such parts, where they take the leads along.
+-- Parts of the elements of a reduced basis are a reduced basis of the module of such parts, where they take the leads
+-- along.
 use Rattle.std.proofs.Common.{◌≡◌, Bool, true, false, ◌||◌, ℕ, List, [], ◌∷◌, filter, map, refl, sym, ◌∙◌, ap, subst}
 use Rattle.std.specs.Bool.{IsFalse}
 use Rattle.std.specs.declared.cmp.Ordering.TheVariants.{Less}

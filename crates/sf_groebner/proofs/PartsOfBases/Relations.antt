@@ -1,12 +1,11 @@
 -- The relations of generators modulo a span are the first blocks of the syzygies of a stack.
-use Rattle.std.proofs.Common.{◌≡◌, ◌<◌, ◌+◌, List, [], ◌++◌, length, sym, ◌∙◌, ap, subst}
+use Rattle.std.proofs.Common.{◌≡◌, ◌+◌, List, [], ◌++◌, length, sym, ◌∙◌, ap, subst}
 use Rattle.std.proofs.lemmas.List.{length-map}
 use Rattle.sf_algebra.specs.Matrices.{Matrix, row_degrees}
 use Rattle.sf_algebra.specs.MatrixOperations.{part_terms, row_combination, stacked}
 use Rattle.sf_algebra.specs.Multiples.{negative}
 use Rattle.sf_algebra.specs.Rings.{IsRing}
-use Rattle.sf_algebra.specs.Sums.{add}
-use Rattle.sf_algebra.specs.Terms.{Term, IsCanonical}
+use Rattle.sf_algebra.specs.Terms.{Term}
 use Rattle.sf_algebra.specs.VectorOperations.{row_sum}
 use Rattle.sf_algebra.specs.Vectors.{Place, Vector, place_cmp, IsVector, IsCanonicalRow}
 use Rattle.sf_algebra.proofs.Multiplying.Keys.{place_keys}

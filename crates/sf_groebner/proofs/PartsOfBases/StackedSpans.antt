@@ -1,18 +1,16 @@
--- The coefficients of a stack are those of its first rows and those of the others, and its span is the sum of their spans.
-use Rattle.std.proofs.Common.{◌≡◌, ◌<◌, ◌+◌, ◌++◌, length, refl, sym, ◌∙◌, ap, subst, arith}
+-- The coefficients of a stack are those of its first rows and those of the others, and its span is the sum of their
+-- spans.
+use Rattle.std.proofs.Common.{◌≡◌, ◌+◌, ◌++◌, length, refl, sym, ◌∙◌, ap, subst, arith}
 use Rattle.std.proofs.lemmas.List.{length-append, length-map}
 use Rattle.sf_algebra.specs.Matrices.{Matrix, row_degrees}
 use Rattle.sf_algebra.specs.MatrixOperations.{part_terms, row_combination, stacked, vector_part}
 use Rattle.sf_algebra.specs.Rings.{IsRing}
-use Rattle.sf_algebra.specs.Sums.{add}
 use Rattle.sf_algebra.specs.VectorOperations.{row_sum}
-use Rattle.sf_algebra.specs.Vectors.{Vector, place_cmp, IsVector}
+use Rattle.sf_algebra.specs.Vectors.{Vector, IsVector}
 use Rattle.sf_algebra.proofs.GradedMatrices.MatrixRows.{StandsWithin}
 use Rattle.sf_algebra.proofs.GradedMatrices.PartTerms.{IsVector-part_terms}
 use Rattle.sf_algebra.proofs.GradedMatrices.Ranges.{slice_range-first, slice_range-second}
 use Rattle.sf_algebra.proofs.GradedMatrices.Stacks.{row_degrees-stacked}
-use Rattle.sf_algebra.proofs.Monomials.Orders.{place_cmp_linear}
-use Rattle.sf_algebra.proofs.Terms.Sums.{add_comm}
 use Rattle.sf_algebra.proofs.Vectors.RowSums.{row_sum-comm}
 use Rattle.sf_algebra.proofs.Vectors.StackedRows.{row_combination-stacked}
 use Rattle.sf_groebner.specs.MinimalGenerators.{IsInSum}

@@ -6,17 +6,14 @@ use Rattle.std.specs.List.{AllByRecursion}
 use Rattle.sf_algebra.specs.Matrices.{Matrix, IsMatrix, row_degrees, degrees_of}
 use Rattle.sf_algebra.specs.MatrixOperations.{moved, part_terms, row_at, row_combination, unit_rows}
 use Rattle.sf_algebra.specs.Rings.{IsRing}
-use Rattle.sf_algebra.specs.Sums.{add}
-use Rattle.sf_algebra.specs.Terms.{Term, IsCanonical}
+use Rattle.sf_algebra.specs.Terms.{Term}
 use Rattle.sf_algebra.specs.VectorOperations.{row_sum}
-use Rattle.sf_algebra.specs.Vectors.{Place, Vector, place_cmp, IsHomogeneous, IsVector, IsCanonicalRow}
+use Rattle.sf_algebra.specs.Vectors.{Place, Vector, IsHomogeneous, IsVector, IsCanonicalRow}
 use Rattle.sf_algebra.proofs.Basics.Lists.{AllByRecursion-weaken}
 use Rattle.sf_algebra.proofs.GradedMatrices.Identities.{IsMatrix-identity, degrees-unit_rows, length-unit_rows}
 use Rattle.sf_algebra.proofs.GradedMatrices.MatrixRows.{StandsWithin, with_terms}
 use Rattle.sf_algebra.proofs.GradedMatrices.ProductParts.{part_terms-row_combination}
 use Rattle.sf_algebra.proofs.GradedMatrices.Stacks.{AllByRecursion-map, degrees-with_terms, with_terms-each, with_terms-with_terms}
-use Rattle.sf_algebra.proofs.Monomials.Orders.{place_cmp_linear}
-use Rattle.sf_algebra.proofs.Terms.Sums.{add-nil}
 use Rattle.sf_algebra.proofs.Vectors.Degrees.{IsHomogeneous-row_combination}
 use Rattle.sf_algebra.proofs.Vectors.HomogeneousVectors.{IsVector-row_combination}
 use Rattle.sf_algebra.proofs.Vectors.RowSums.{row_sum-nil}

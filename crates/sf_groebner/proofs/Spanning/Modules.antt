@@ -1,10 +1,8 @@
 -- Modules of homogeneous vectors, as far as their bases, lifts and generators being unique asks.
-use Rattle.std.proofs.Common.{◌≡◌, ℕ, List, ℤ}
-use Rattle.sf_algebra.specs.Multiples.{negative}
+use Rattle.std.proofs.Common.{◌≡◌, List, ℤ}
 use Rattle.sf_algebra.specs.Rings.{Ring}
-use Rattle.sf_algebra.specs.Sums.{add}
 use Rattle.sf_algebra.specs.VectorOperations.{vector_difference}
-use Rattle.sf_algebra.specs.Vectors.{Vector, place_cmp, IsVector}
+use Rattle.sf_algebra.specs.Vectors.{Vector, IsVector}
 
 -- the vectors of N are homogeneous vectors over one free module, and differences of two of one degree are in N
 pub record IsModuleLike (ring : Ring) (degrees : List ℤ) (N : Vector → Type 0) : Type 0 where

@@ -1,11 +1,11 @@
 -- Spans, relations and syzygies are closed under combinations.
-use Rattle.std.proofs.Common.{◌≡◌, ℕ, ◌<◌, List, [], ◌∷◌, refl, sym, ◌∙◌, ap, subst, ℤ}
+use Rattle.std.proofs.Common.{◌≡◌, List, [], ◌∷◌, refl, sym, ◌∙◌, ap, subst, ℤ}
 use Rattle.std.specs.List.{AllByRecursion}
 use Rattle.sf_algebra.specs.Matrices.{Matrix, row_degrees, IsMatrix, degrees_of}
 use Rattle.sf_algebra.specs.MatrixOperations.{row_at, row_combination}
 use Rattle.sf_algebra.specs.Multiples.{negative}
 use Rattle.sf_algebra.specs.Rings.{Ring, IsRing}
-use Rattle.sf_algebra.specs.Sums.{normal, add}
+use Rattle.sf_algebra.specs.Sums.{normal}
 use Rattle.sf_algebra.specs.Terms.{Term}
 use Rattle.sf_algebra.specs.VectorOperations.{row_sum}
 use Rattle.sf_algebra.specs.Vectors.{Place, Vector, place_cmp, IsHomogeneous}
@@ -17,7 +17,6 @@ use Rattle.sf_algebra.proofs.Multiplying.Keys.{place_keys}
 use Rattle.sf_algebra.proofs.Terms.Negatives.{negative-negative, IsCanonical-negative}
 use Rattle.sf_algebra.proofs.Terms.Normal.{IsCanonical-normal}
 use Rattle.sf_algebra.proofs.Terms.SameTotals.{SameTotals-normal, combination-SameTotals}
-use Rattle.sf_algebra.proofs.Terms.Sums.{add-nil_first}
 use Rattle.sf_algebra.proofs.Vectors.Degrees.{IsHomogeneous-normal, IsHomogeneous-row_combination}
 use Rattle.sf_algebra.proofs.Vectors.RowSums.{row_sum-nil_first}
 use Rattle.sf_algebra.proofs.Vectors.Rows.{IsCanonical-row_combination, row_combination-matrix_product, row_combination-nil}

@@ -1,11 +1,10 @@
 -- In one degree spans, syzygies and relations are subgroups of the vectors of that degree.
-use Rattle.std.proofs.Common.{◌≡◌, ◌<◌, ap, subst, List, ℕ, ℤ}
+use Rattle.std.proofs.Common.{◌≡◌, ap, subst, List, ℤ}
 use Rattle.sf_algebra.specs.DegreeParts.{degree_part}
 use Rattle.sf_algebra.specs.Groups.{IsSub, IsWithin, Whole, ImageOf, PreimageOf, KernelOf}
 use Rattle.sf_algebra.specs.Matrices.{Matrix, IsMatrix, row_degrees}
 use Rattle.sf_algebra.specs.MatrixOperations.{row_combination}
 use Rattle.sf_algebra.specs.Rings.{Ring, IsRing}
-use Rattle.sf_algebra.specs.Terms.{IsCanonical}
 use Rattle.sf_algebra.specs.VectorOperations.{vector_difference}
 use Rattle.sf_algebra.specs.Vectors.{Vector, place_cmp, IsVector, IsCanonicalRow}
 use Rattle.sf_algebra.proofs.Basics.Filters.{IsCanonical-filter}

@@ -1,17 +1,15 @@
 -- Modules of homogeneous vectors that are closed under combinations, and what a division leaves of their vectors.
-use Rattle.std.proofs.Common.{◌≡◌, ℕ, ◌<◌, List, [], ◌∷◌, map, refl, sym, ◌∙◌, ap, subst, arith, ℤ}
+use Rattle.std.proofs.Common.{◌≡◌, List, [], ◌∷◌, map, refl, sym, ◌∙◌, ap, subst, arith, ℤ}
 use Rattle.std.proofs.lemmas.Int.{ints}
 use Rattle.std.specs.List.{AllByRecursion}
 use Rattle.sf_algebra.specs.Matrices.{degrees_of}
 use Rattle.sf_algebra.specs.MatrixOperations.{row_combination}
 use Rattle.sf_algebra.specs.Monomials.{one}
 use Rattle.sf_algebra.specs.Multiples.{place_product, term_product, negative}
-use Rattle.sf_algebra.specs.Primes.{IsPrime}
 use Rattle.sf_algebra.specs.Rings.{Ring, IsRing, IsOverField}
-use Rattle.sf_algebra.specs.Sums.{add}
 use Rattle.sf_algebra.specs.Terms.{Term, IsNonzeroResidue}
 use Rattle.sf_algebra.specs.VectorOperations.{row_sum}
-use Rattle.sf_algebra.specs.Vectors.{Place, Vector, place_cmp, IsHomogeneous}
+use Rattle.sf_algebra.specs.Vectors.{Place, Vector, IsHomogeneous}
 use Rattle.sf_algebra.proofs.Arithmetic.Inverses.{inverse_exists, inverse_nonzero}
 use Rattle.sf_algebra.proofs.Arithmetic.Residues.{product_mod-comm}
 use Rattle.sf_algebra.proofs.Monomials.Places.{place_product-one}

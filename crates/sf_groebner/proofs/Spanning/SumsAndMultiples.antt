@@ -1,17 +1,14 @@
 -- Modules closed under sums and multiples: spans and 0.
-use Rattle.std.proofs.Common.{◌≡◌, ℕ, zero, suc, ◌<◌, List, [], ◌∷◌, refl, sym, ◌∙◌, ap, subst, ℤ}
+use Rattle.std.proofs.Common.{◌≡◌, ℕ, zero, suc, List, [], ◌∷◌, refl, sym, ◌∙◌, ap, subst, ℤ}
 use Rattle.sf_algebra.specs.Matrices.{Matrix, row_degrees}
 use Rattle.sf_algebra.specs.MatrixOperations.{row_at, row_combination}
 use Rattle.sf_algebra.specs.Multiples.{place_product, combination}
 use Rattle.sf_algebra.specs.Rings.{Ring, IsRing}
-use Rattle.sf_algebra.specs.Sums.{add}
 use Rattle.sf_algebra.specs.Terms.{Term}
 use Rattle.sf_algebra.specs.VectorOperations.{row_sum}
 use Rattle.sf_algebra.specs.Vectors.{Place, Vector, place_cmp, IsVector}
 use Rattle.sf_algebra.proofs.GradedMatrices.ProductParts.{combination-no_rows}
-use Rattle.sf_algebra.proofs.Monomials.Orders.{place_cmp_linear}
 use Rattle.sf_algebra.proofs.Multiplying.Keys.{place_keys}
-use Rattle.sf_algebra.proofs.Terms.Sums.{add-nil}
 use Rattle.sf_algebra.proofs.Vectors.HomogeneousVectors.{IsVector-add, IsVector-row_combination}
 use Rattle.sf_algebra.proofs.Vectors.RowSums.{row_sum-nil}
 use Rattle.sf_algebra.proofs.Vectors.Rows.{row_combination-add, row_combination-matrix_product}

@@ -1,5 +1,5 @@
 -- Combinations of syzygies are syzygies.
-use Rattle.std.proofs.Common.{◌≡◌, ◌<◌, List, [], refl, sym, ◌∙◌, ap}
+use Rattle.std.proofs.Common.{◌≡◌, List, [], refl, sym, ◌∙◌, ap}
 use Rattle.std.specs.List.{AllByRecursion}
 use Rattle.sf_algebra.specs.Matrices.{Matrix, row_degrees}
 use Rattle.sf_algebra.specs.MatrixOperations.{row_combination}

@@ -1,12 +1,11 @@
 -- A vector has at most one lift; the first block of a lift over a stack is reduced by the first blocks of syzygies.
-use Rattle.std.proofs.Common.{◌≡◌, ◌||◌, false, ℕ, ◌<◌, List, length, slice_range, sym, ◌∙◌, ap, subst}
+use Rattle.std.proofs.Common.{◌≡◌, ◌||◌, false, ℕ, List, length, slice_range, sym, ◌∙◌, ap, subst}
 use Rattle.sf_algebra.specs.Matrices.{Matrix, row_degrees}
 use Rattle.sf_algebra.specs.MatrixOperations.{part_terms, row_combination, stacked}
 use Rattle.sf_algebra.specs.Multiples.{negative}
 use Rattle.sf_algebra.specs.Rings.{IsRing}
-use Rattle.sf_algebra.specs.Sums.{add}
 use Rattle.sf_algebra.specs.VectorOperations.{row_sum, vector_difference}
-use Rattle.sf_algebra.specs.Vectors.{Vector, place_cmp}
+use Rattle.sf_algebra.specs.Vectors.{Vector}
 use Rattle.sf_algebra.proofs.Basics.Lists.{AllByRecursion-weaken}
 use Rattle.sf_algebra.proofs.Multiplying.Keys.{place_keys}
 use Rattle.sf_algebra.proofs.Terms.Negatives.{add-negative}

@@ -1,21 +1,16 @@
 -- The relations of a presentation span all relations, so the coordinates that a lift gives are reduced by them.
-use Rattle.std.proofs.Common.{◌≡◌, ℕ, ◌<◌, List, [], length, refl, sym, ◌∙◌, ap, subst, ℤ, arith}
+use Rattle.std.proofs.Common.{◌≡◌, List, [], length, refl, sym, ◌∙◌, ap, subst, ℤ}
 use Rattle.sf_algebra.specs.Matrices.{Matrix, row_degrees, IsMatrix}
 use Rattle.sf_algebra.specs.MatrixOperations.{stacked, vector_part}
 use Rattle.sf_algebra.specs.Multiples.{place_product, combination, negative}
-use Rattle.sf_algebra.specs.Primes.{IsPrime}
 use Rattle.sf_algebra.specs.Rings.{Ring, IsRing, IsOverField}
-use Rattle.sf_algebra.specs.Sums.{add}
-use Rattle.sf_algebra.specs.Terms.{IsCanonical}
 use Rattle.sf_algebra.specs.VectorOperations.{row_sum, vector_difference}
 use Rattle.sf_algebra.specs.Vectors.{Vector, place_cmp, IsVector, IsCanonicalRow}
 use Rattle.sf_algebra.proofs.GradedMatrices.MatrixRows.{row_at-each}
 use Rattle.sf_algebra.proofs.GradedMatrices.ProductParts.{combination-no_rows}
-use Rattle.sf_algebra.proofs.Monomials.Orders.{place_cmp_linear}
 use Rattle.sf_algebra.proofs.Monomials.Weights.{field_ring}
 use Rattle.sf_algebra.proofs.Multiplying.Keys.{place_keys}
 use Rattle.sf_algebra.proofs.Terms.Negatives.{add-negative}
-use Rattle.sf_algebra.proofs.Terms.Sums.{add-nil_first}
 use Rattle.sf_algebra.proofs.Vectors.RowSums.{row_sum-nil_first}
 use Rattle.sf_algebra.proofs.Vectors.Rows.{IsCanonical-row_combination}
 use Rattle.sf_groebner.specs.Cuts.{first_parts, IsFirstBlock}

@@ -1,5 +1,5 @@
--- A list that begins with the graph's own rows, each a row of the matrix and a unit vector, is the reduced basis of the graph
--- where its pairs reduce to zero.
+-- A list that begins with the graph's own rows, each a row of the matrix and a unit vector, is the reduced basis of the
+-- graph where its pairs reduce to zero.
 use Rattle.std.proofs.Common.{◌≡◌, ℕ, ◌+◌, ◌<◌, List, ◌++◌, length, map, sym, ◌∙◌, ap, subst}
 use Rattle.std.specs.List.{AllByRecursion}
 use Rattle.sf_algebra.specs.Matrices.{Matrix, row_degrees, IsMatrix}
@@ -14,7 +14,7 @@ use Rattle.sf_algebra.proofs.GradedMatrices.Stacks.{degrees-with_terms}
 use Rattle.sf_algebra.proofs.Vectors.HomogeneousVectors.{IsVector-row_combination}
 use Rattle.sf_algebra.proofs.Vectors.UnitRows.{row_combination-unit_rows}
 use Rattle.sf_groebner.specs.Criterion.{HaveLeadsAtOnePosition, IsForRows, IsMonicRow, ReducesToZero}
-use Rattle.sf_groebner.specs.ReducedBases.{HasDividedLead, IsApart, IsMonic, IsReducedBasis, IsSorted, IsGraphBasis}
+use Rattle.sf_groebner.specs.ReducedBases.{HasDividedLead, IsApart, IsMonic, IsSorted, IsGraphBasis}
 use Rattle.sf_groebner.specs.Spans.{IsCoefficients, graph_degrees, value_terms, coefficient_terms, IsGraphVector}
 use Rattle.sf_groebner.proofs.PairLoops.GrowingRows.{length-more, row_combination-more_rows}
 use Rattle.sf_groebner.proofs.PairTheorems.Buchberger.{buchberger}

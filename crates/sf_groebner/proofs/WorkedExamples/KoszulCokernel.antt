@@ -13,7 +13,7 @@ use Rattle.sf_algebra.proofs.Vectors.HomogeneousVectors.{row_combination-identit
 use Rattle.sf_algebra.proofs.Vectors.UnitRows.{unit_term}
 use Rattle.sf_groebner.specs.Homology.{IsAny}
 use Rattle.sf_groebner.specs.HomologyExamples.{HasKoszulCokernel, RefusesNoCokernel}
-use Rattle.sf_groebner.specs.MinimalGenerators.{AreMinimal, IsInSum, matrix_of}
+use Rattle.sf_groebner.specs.MinimalGenerators.{AreMinimal, IsInSum}
 use Rattle.sf_groebner.specs.Presentations.{IsRelation, IsZero}
 use Rattle.sf_groebner.specs.ReducedBases.{HasDividedLead, IsReducedBasis}
 use Rattle.sf_groebner.specs.ResolutionExamples.{x_row, y_row, two_variables}

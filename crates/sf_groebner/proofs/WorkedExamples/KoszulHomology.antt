@@ -9,7 +9,7 @@ use Rattle.sf_algebra.specs.Vectors.{Vector}
 use Rattle.sf_groebner.specs.Examples.{term, vector}
 use Rattle.sf_groebner.specs.Homology.{IsCycle}
 use Rattle.sf_groebner.specs.HomologyExamples.{no_rows_below, no_rows_between, HasNoKoszulHomology, HasKoszulKernel}
-use Rattle.sf_groebner.specs.MinimalGenerators.{AreMinimal, IsInSum, matrix_of}
+use Rattle.sf_groebner.specs.MinimalGenerators.{AreMinimal, IsInSum}
 use Rattle.sf_groebner.specs.Presentations.{IsRelation, IsZero}
 use Rattle.sf_groebner.specs.ReducedBases.{IsReducedBasis}
 use Rattle.sf_groebner.specs.ResolutionExamples.{two_variables, koszul_row, koszul}

@@ -10,7 +10,7 @@ use Rattle.sf_algebra.specs.Sums.{normal, insert}
 use Rattle.sf_algebra.specs.Vectors.{Vector, IsVector}
 use Rattle.sf_groebner.specs.Criterion.{HaveLeadsAtOnePosition, ReducesToZero}
 use Rattle.sf_groebner.specs.Examples.{term, vector}
-use Rattle.sf_groebner.specs.MinimalGenerators.{AreKept, AreMinimal, IsInSum, matrix_of}
+use Rattle.sf_groebner.specs.MinimalGenerators.{AreKept, AreMinimal, IsInSum}
 use Rattle.sf_groebner.specs.Presentations.{IsZero}
 use Rattle.sf_groebner.specs.ReducedBases.{IsReducedBasis}
 use Rattle.sf_groebner.specs.ResolutionExamples.{x_row, y_row, two_variables, koszul_row, koszul, HasKoszulResolution, RefusesOneVariable}

@@ -3,7 +3,7 @@ use Rattle.std.proofs.Common.{◌≡◌, [], ◌∷◌, inl, inr, refl, arith, p
 use Rattle.sf_algebra.specs.Rings.{plain}
 use Rattle.sf_algebra.specs.Sums.{add, normal, insert}
 use Rattle.sf_groebner.specs.Examples.{vector, first_row, second_row, third_row, quadrics, quadrics_basis, quadrics_syzygy}
-use Rattle.sf_groebner.specs.MinimalGenerators.{AreMinimal, IsInSum, matrix_of}
+use Rattle.sf_groebner.specs.MinimalGenerators.{AreMinimal, IsInSum}
 use Rattle.sf_groebner.specs.Presentations.{IsZero}
 use Rattle.sf_groebner.specs.ResolutionExamples.{quadrics_syzygies, HasQuadricsResolution, RefusesThirdRow}
 use Rattle.sf_groebner.specs.Spans.{InSpan, IsSyzygy}

@@ -1,4 +1,4 @@
-use Rattle.std.proofs.Common.{◌<◌, sym, arith}
+use Rattle.std.proofs.Common.{sym}
 use Rattle.sf_algebra.specs.Matrices.{row_degrees}
 use Rattle.sf_algebra.specs.Rings.{IsRing}
 use Rattle.sf_algebra.proofs.Monomials.Weights.{field_ring}
