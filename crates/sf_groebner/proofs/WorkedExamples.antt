@@ -8,3 +8,4 @@ pub mod QuadricsSteps
 pub mod KoszulSteps
 pub mod KoszulHomology
 pub mod KoszulCokernel
+pub mod SizesAtBounds

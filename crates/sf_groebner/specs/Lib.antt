@@ -25,3 +25,4 @@ pub mod RefusedBases
 pub mod ResolutionExamples
 pub mod PresentationExistenceLaws
 pub mod HomologyExamples
+pub mod BoundsExamples

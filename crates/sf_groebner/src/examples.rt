@@ -1,6 +1,7 @@
 ghost use Rattle.sf_groebner.specs.Examples.{IsQuadricsMatrix, HasQuadricsGraphBasis, HasQuadricsBasis, HasQuadricsSyzygy, HasThirdRowLift, HasSmallQuadrics, HasLargeQuadrics, RefusesOtherCoefficients, RefusesUnitAsSyzygy};
 ghost use Rattle.sf_groebner.specs.RefusedBases.{RefusesLaterLeadInTail, RefusesEarlierLeadInTail, RefusesOutsideRows, RefusesDoubledRow, RefusesZero, RefusesWithoutThirdRow, RefusesSmallerLeadFirst, RefusesGreaterDegreeFirst};
 ghost use Rattle.sf_groebner.specs.ResolutionExamples.{HasKoszulResolution, RefusesOneVariable, HasQuadricsResolution, RefusesThirdRow};
+ghost use Rattle.sf_groebner.specs.BoundsExamples.{HasSmallSizeAtBounds, RefusesOneMoreRow, RefusesOneMoreColumn, RefusesGreaterDegree, RefusesLesserDegree};
 ghost use Rattle.sf_groebner.specs.HomologyExamples.{HasNoKoszulHomology, HasKoszulKernel, HasKoszulCokernel, RefusesNoCokernel};
 
 /// The ideal of x^2 and x y + y^2: its graph, its reduced basis, its syzygies and a lift.
@@ -42,4 +43,13 @@ pub fn koszul_homology()
     ensures kernel { HasKoszulKernel }
     ensures cokernel { HasKoszulCokernel }
     ensures not_zero { RefusesNoCokernel }
+{}
+
+/// Matrices at the bounds within which bases are computed, and one row, column or degree past them.
+pub fn bounds_on_both_sides()
+    ensures at_bounds { HasSmallSizeAtBounds }
+    ensures one_more_row { RefusesOneMoreRow }
+    ensures one_more_column { RefusesOneMoreColumn }
+    ensures greater_degree { RefusesGreaterDegree }
+    ensures lesser_degree { RefusesLesserDegree }
 {}
