@@ -1,6 +1,6 @@
 -- Where a term stands, and the term, written by its generator, its monomial and its coefficient.
 use Rattle.std.specs.Prelude.{ℕ, ◌+ℤ◌}
-use Rattle.sf_algebra.specs.MatrixOperations.{kronecker_terms, part_terms, vector_part}
+use Rattle.sf_algebra.specs.MatrixOperations.{kronecker_terms}
 use Rattle.sf_algebra.specs.Monomials.{Monomial}
 use Rattle.sf_algebra.specs.Rings.{Ring}
 use Rattle.sf_algebra.specs.Terms.{Term}

@@ -4,7 +4,6 @@ use Rattle.std.proofs.lemmas.List.{take_all}
 use Rattle.std.proofs.lemmas.Option.{slice_get_read}
 use Rattle.sf_algebra.specs.Matrices.{IsMatrix}
 use Rattle.sf_algebra.specs.MatrixOperations.{kronecker, degree_sums}
-use Rattle.sf_algebra.specs.Rings.{plain}
 use Rattle.sf_algebra.specs.Vectors.{Vector, IsVector}
 use Rattle.sf_algebra.proofs.Basics.Lists.{AllByRecursion-get, AllByRecursion-weaken}
 use Rattle.sf_algebra.proofs.Tensors.Kronecker.{IsMatrix-kronecker}
