@@ -2,6 +2,7 @@
 pub mod LeadDivisors
 pub mod MonicVectors
 pub mod Divisions
+pub mod DivisionSteps
 pub mod Completions
 pub mod Antichains
 pub mod Tails

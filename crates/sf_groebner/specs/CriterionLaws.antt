@@ -1,6 +1,6 @@
 -- What the pairs of rows decide: Buchberger's criterion, whole and up to a degree, the chain criterion, and Schreyer's
 -- theorem on syzygies. (Cox, Little, O'Shea, "Using Algebraic Geometry", chapter 5, sections 2 and 3.)
-use Rattle.std.specs.Prelude.{◌≡◌, ◌↔◌, ℕ, ◌<◌, List, length, ℤ, ◌≤ℤ◌}
+use Rattle.std.specs.Prelude.{◌≡◌, ◌↔◌, ℕ, ◌<◌, List, [], length, ℤ, ◌≤ℤ◌}
 use Rattle.std.specs.declared.cmp.Ordering.TheVariants.{Less}
 use Rattle.std.specs.List.{AllByRecursion}
 use Rattle.sf_algebra.specs.Matrices.{Matrix, IsMatrix, row_degrees}
@@ -9,6 +9,7 @@ use Rattle.sf_algebra.specs.Rings.{Ring, IsRing}
 use Rattle.sf_algebra.specs.Terms.{Term}
 use Rattle.sf_algebra.specs.Vectors.{Place, Vector, place_cmp}
 use Rattle.sf_groebner.specs.Criterion.{HaveLeadsAtOnePosition, IsMonicRow, IsPairSyzygy, ReducesToZero, lcm_place, lead_at, s_vector, IsPair, IsGroebnerBasis, HasReducingPairs, HasDegreeUpTo}
+use Rattle.sf_groebner.specs.Divisions.{IsDivided}
 use Rattle.sf_groebner.specs.Leads.{PlaceDivides}
 use Rattle.sf_groebner.specs.ReducedBases.{HasDividedLead}
 use Rattle.sf_groebner.specs.Spans.{InSpan, IsCoefficients, IsSyzygy}
@@ -39,6 +40,14 @@ abbrev pub TakesEitherOrder : Type 0
 TakesEitherOrder =
     (ring : Ring) → IsRing ring → (rows : List Vector)
     (i j : ℕ) → HaveLeadsAtOnePosition rows i j → ReducesToZero ring rows i j → ReducesToZero ring rows j i
+
+-- a pair of homogeneous rows reduces to zero where its S-vector has a division by the rows without a rest
+abbrev pub ReducesByDivisions : Type 0
+ReducesByDivisions =
+    (m : Matrix) → IsRing m.ring → IsMatrix m → AllByRecursion (IsMonicRow m.ring) m.rows
+    → (i j : ℕ) → IsPair m.rows i j
+    → (d : ℤ) (quotients : List (Term Place)) → IsDivided m.ring m.target m.rows d (s_vector m.ring m.rows i j) [] quotients
+    → ReducesToZero m.ring m.rows i j
 
 -- the chain criterion: a pair reduces to zero where the lead of a row divides its least common multiple, and its pairs
 -- with that row do

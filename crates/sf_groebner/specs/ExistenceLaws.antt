@@ -1,10 +1,12 @@
 -- What each graded matrix has modulo a prime: reduced bases, one answer for each limit, rests of divisions, and lifts.
 -- (Cox, Little, O'Shea, "Using Algebraic Geometry", chapter 5, sections 2 and 3.)
 use Rattle.std.specs.Prelude.{◌≡◌, ◌↔◌, ℕ, List, [], Option}
+use Rattle.std.specs.List.{AllByRecursion}
 use Rattle.sf_algebra.specs.Matrices.{Matrix, IsMatrix}
 use Rattle.sf_algebra.specs.Rings.{IsRing, IsOverField}
 use Rattle.sf_algebra.specs.VectorOperations.{vector_difference}
 use Rattle.sf_algebra.specs.Vectors.{Vector, IsVector}
+use Rattle.sf_groebner.specs.Criterion.{IsMonicRow}
 use Rattle.sf_groebner.specs.Divisions.{IsDivision}
 use Rattle.sf_groebner.specs.Lifts.{IsLift}
 use Rattle.sf_groebner.specs.Presentations.{IsReducedByRelations}
@@ -34,13 +36,19 @@ abbrev pub HasNoOtherAnswer : Type 0
 HasNoOtherAnswer =
     (limit : ℕ) (m : Matrix) → IsRing m.ring → (a b : Option (List Vector)) → IsAnswer limit m a → IsAnswer limit m b → a ≡ b
 
--- a vector has a division by the reduced basis of a span
+-- a vector has a division by monic rows
 abbrev pub HasDivisions : Type 0
 HasDivisions =
+    (m : Matrix) → IsOverField m.ring → IsMatrix m → AllByRecursion (IsMonicRow m.ring) m.rows → (v : Vector) → IsVector m.ring m.target v
+    → (rest : Vector) × (quotients : Vector) × IsDivision m.ring m.target m.rows v rest quotients
+
+-- so it has one by the reduced basis of a span
+abbrev pub HasDivisionsByBases : Type 0
+HasDivisionsByBases =
     (m : Matrix) → IsOverField m.ring → IsMatrix m → (basis : List Vector) → IsSpanBasis m basis → (v : Vector) → IsVector m.ring m.target v
     → (rest : Vector) × (quotients : Vector) × IsDivision m.ring m.target basis v rest quotients
 
--- two divisions of it leave one rest
+-- two divisions by it leave one rest
 abbrev pub HasOneRest : Type 0
 HasOneRest =
     (m : Matrix) → IsRing m.ring → IsMatrix m → (basis : List Vector) → IsSpanBasis m basis

@@ -1,4 +1,4 @@
-ghost use Rattle.sf_groebner.specs.ExistenceLaws.{HasGraphBasis, HasSpanBasis, HasSyzygyBasis, HasAnswer, HasNoOtherAnswer, HasDivisions, HasOneRest, HasRestInside, HasReducedVector, HasLifts};
+ghost use Rattle.sf_groebner.specs.ExistenceLaws.{HasGraphBasis, HasSpanBasis, HasSyzygyBasis, HasAnswer, HasNoOtherAnswer, HasDivisions, HasDivisionsByBases, HasOneRest, HasRestInside, HasReducedVector, HasLifts};
 ghost use Rattle.sf_groebner.specs.PresentationExistenceLaws.{HasHomology, HasKernel, HasImage, HasCokernel, HasResolution};
 
 /// Modulo a prime the graph, the span and the syzygies of a matrix have reduced bases.
@@ -14,10 +14,11 @@ pub fn each_matrix_has_one_answer()
     ensures unique { HasNoOtherAnswer }
 {}
 
-/// Modulo a prime each vector has a division by the reduced basis of a span, with one rest, which is none for the vectors of the span;
-/// so it differs by a vector of the span from one that is reduced by the relations.
+/// Modulo a prime each vector has a division by monic rows. By the reduced basis of a span it has one rest, which is none for the
+/// vectors of the span; so it differs by a vector of the span from one that is reduced by the relations.
 pub fn each_vector_has_one_rest()
     ensures exists { HasDivisions }
+    ensures by_bases { HasDivisionsByBases }
     ensures unique { HasOneRest }
     ensures inside { HasRestInside }
     ensures reduced { HasReducedVector }

@@ -17,6 +17,7 @@ use Rattle.sf_algebra.proofs.Monomials.Weights.{field_ring}
 use Rattle.sf_algebra.proofs.Vectors.RowSums.{row_sum-nil_first}
 use Rattle.sf_algebra.proofs.Vectors.Rows.{IsCanonical-row_combination}
 use Rattle.sf_groebner.specs.Criterion.{HaveLeadsAtOnePosition, ReducesToZero, lead_at, lead_place, s_vector, s_coefficients}
+use Rattle.sf_groebner.specs.Divisions.{IsDivided}
 use Rattle.sf_groebner.specs.Leads.{place_divides}
 use Rattle.sf_groebner.specs.ReducedBases.{HasDividedLead, IsMonic, IsReducedBy, is_divided}
 use Rattle.sf_groebner.proofs.Basics.Dickson.{AddsLead, leads_acc}
@@ -27,7 +28,7 @@ use Rattle.sf_groebner.proofs.Constructions.MonicVectors.{IsMonicVector}
 use Rattle.sf_groebner.proofs.PairLoops.HomogeneousPairs.{ReducesToZero-division, pair_degree, s_coefficients-homogeneous}
 use Rattle.sf_groebner.proofs.PairTheorems.Buchberger.{buchberger}
 use Rattle.sf_groebner.proofs.Spanning.Generators.{AreGenerators, IsCombination, IsCombination-trans}
-use Rattle.sf_groebner.proofs.Spanning.Submodules.{HasMonicAt, IsSubmodule, monic_multiple, rest-inside}
+use Rattle.sf_groebner.proofs.Spanning.Submodules.{HasMonicAt, IsSubmodule, monic_multiple, rest_inside}
 
 -- a fact of each item, or one that an item gives
 each_or : {X : Type 0} (R P : X → Type 0) (Q : Type 0) → ((x : X) → R x → P x ⊎ Q) → (xs : List X) → AllByRecursion R xs
@@ -84,7 +85,7 @@ module _ (ring : Ring) (prime : IsOverField ring) (target : List ℤ) (N : Vecto
     division_or_new : (v : Vector) → N v → ((e : Division ring target rows v) × (e.rest ≡ [])) ⊎ HasNewLead rows
     division_or_new v h =
         let e = divide ring prime target rows (monic_vectors rows monic) v (submodule.module_like.vectors v h) in
-        elim (rest_or_new v.degree e.rest (rest-inside ring prime target N submodule rows (AllByRecursion-weaken _ _ (λ w k. k.0) rows monic) v h e) e.free) [
+        elim (rest_or_new v.degree e.rest (rest_inside ring (field_ring prime) target N submodule rows (AllByRecursion-weaken _ _ (λ w k. k.0) rows monic) v.degree v.terms e.rest e.quotients h e.divided) e.divided.reduced) [
           | inl none ↦ inl (e, none)
           | inr found ↦ inr found
         ]
@@ -95,11 +96,11 @@ module _ (ring : Ring) (prime : IsOverField ring) (target : List ℤ) (N : Vecto
       | inl found ↦ let e = found.0 in
           inl (record {
             coefficients = e.quotients;
-            homogeneous = e.homogeneous;
+            homogeneous = e.divided.homogeneous;
             value =
                 sym (row_sum-nil_first ring (field_ring prime).modulus (row_combination ring rows e.quotients) (IsCanonical-row_combination ring (field_ring prime).modulus rows e.quotients))
                 ∙ ap (λ ts. row_sum ring ts (row_combination ring rows e.quotients)) (sym found.1)
-                ∙ e.sum;
+                ∙ e.divided.sum;
           })
       | inr found ↦ inr found
     ]
@@ -112,13 +113,18 @@ module _ (ring : Ring) (prime : IsOverField ring) (target : List ℤ) (N : Vecto
           | inr apart ↦ inl (λ positions. absurd (apart positions))
           | inl positions ↦
               let vectors = monic_vectors rows monic in
-              let d : ℤ = pair_degree ring prime target rows vectors i j i_in j_in positions in
+              let d : ℤ = pair_degree ring (field_ring prime) target rows vectors i j i_in j_in positions in
               let inside : N (record { degree = d; terms = s_vector ring rows i j }) =
               submodule.combinations rows (AllByRecursion-weaken _ _ (λ w k. k.0) rows monic) d
               (s_coefficients ring.modulus (lead_at rows) i j)
-              (s_coefficients-homogeneous ring prime target rows vectors i j i_in j_in positions) in
+              (s_coefficients-homogeneous ring (field_ring prime) target rows vectors i j i_in j_in positions) in
               elim (division_or_new (record { degree = d; terms = s_vector ring rows i j }) inside) [
-                | inl found ↦ inl (λ same. ReducesToZero-division ring prime target rows vectors i j i_in j_in positions found.0 found.1)
+                | inl found ↦
+                    let e = found.0 in
+                    inl
+                    (λ same.
+                    ReducesToZero-division ring (field_ring prime) target rows vectors i j i_in j_in positions d e.quotients
+                    (subst (λ ts. IsDivided ring target rows d (s_vector ring rows i j) ts e.quotients) found.1 e.divided))
                 | inr found ↦ inr found
               ]
         ]

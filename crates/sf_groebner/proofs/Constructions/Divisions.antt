@@ -1,6 +1,6 @@
 -- Division of a homogeneous vector by monic rows: a rest no term of which a lead divides. (Cox, Little, O'Shea, "Using
 -- Algebraic Geometry", chapter 5, section 2.)
-use Rattle.std.proofs.Common.{◌≡◌, inl, inr, false, ℕ, ◌<◌, List, [], ◌∷◌, ◌++◌, length, sym, ◌∙◌, ap, subst, ℤ}
+use Rattle.std.proofs.Common.{◌≡◌, inl, inr, false, ℕ, ◌<◌, List, [], ◌∷◌, length, sym, ◌∙◌, ap, subst, ℤ}
 use Rattle.std.proofs.lemmas.Bool.{cases_Bool}
 use Rattle.std.specs.declared.cmp.Ordering.TheVariants.{Less}
 use Rattle.std.specs.List.{AllByRecursion}
@@ -11,37 +11,32 @@ use Rattle.sf_algebra.specs.Rings.{Ring, IsRing, IsOverField}
 use Rattle.sf_algebra.specs.Terms.{Term}
 use Rattle.sf_algebra.specs.VectorOperations.{row_sum}
 use Rattle.sf_algebra.specs.Vectors.{Place, Vector, place_cmp, IsHomogeneous, IsVector, IsCanonicalRow}
-use Rattle.sf_algebra.proofs.Basics.Lists.{AllByRecursion-append, AllByRecursion-weaken}
+use Rattle.sf_algebra.proofs.Basics.Lists.{AllByRecursion-weaken}
 use Rattle.sf_algebra.proofs.Monomials.Orders.{place_cmp_total}
 use Rattle.sf_algebra.proofs.Monomials.Weights.{field_ring}
 use Rattle.sf_algebra.proofs.Multiplying.Keys.{place_keys}
 use Rattle.sf_algebra.proofs.Terms.Coefficients.{IsCanonical-tail}
 use Rattle.sf_algebra.proofs.Terms.Negatives.{EachPlace-negative}
-use Rattle.sf_algebra.proofs.Terms.Normal.{EachPlace-add, IsAboveEach}
+use Rattle.sf_algebra.proofs.Terms.Normal.{EachPlace-add}
 use Rattle.sf_algebra.proofs.Vectors.Degrees.{IsHomogeneous-row_combination}
 use Rattle.sf_algebra.proofs.Vectors.HomogeneousVectors.{IsVector-add, IsVector-negative, IsVector-nil}
-use Rattle.sf_algebra.proofs.Vectors.RowSums.{row_sum-assoc, row_sum-nil_first}
+use Rattle.sf_algebra.proofs.Vectors.RowSums.{row_sum-assoc, row_sum-comm, row_sum-nil_first}
 use Rattle.sf_algebra.proofs.Vectors.Rows.{IsCanonical-row_combination, row_combination-append, row_combination-nil}
-use Rattle.sf_groebner.specs.Criterion.{lead_at, HasMultipleBelow}
+use Rattle.sf_groebner.specs.Criterion.{lead_at}
+use Rattle.sf_groebner.specs.Divisions.{AreBelow, IsDivided, left_over, step, step_tail}
 use Rattle.sf_groebner.specs.Leads.{PlaceDivides}
-use Rattle.sf_groebner.specs.ReducedBases.{is_divided, IsReducedBy}
+use Rattle.sf_groebner.specs.ReducedBases.{is_divided}
 use Rattle.sf_groebner.proofs.Basics.Accessible.{IsBelow}
-use Rattle.sf_groebner.proofs.Constructions.MonicVectors.{IsMonicVector, IsTermOfDegree-step, lead_multiple-step, is_divided-position, monic_homogeneous, step, multiple_at}
+use Rattle.sf_groebner.proofs.Constructions.MonicVectors.{IsMonicVector, IsTermOfDegree-step, lead_multiple-step, is_divided-position, monic_homogeneous, multiple_at}
 use Rattle.sf_groebner.proofs.PairTheorems.Standard.{place_induction}
 use Rattle.sf_groebner.proofs.Uniqueness.Differences.{add-negative_first}
 use Rattle.sf_groebner.proofs.Uniqueness.Subtractions.{add-first, add-negative_back}
 
--- v is a rest, no term of which a lead divides, and a combination of the rows; what is greater than all of v is greater
--- than both
+-- a vector with its rest and its quotients
 pub record Division (ring : Ring) (target : List ℤ) (rows : List Vector) (v : Vector) : Type 0 where
   pub rest : List (Term Place)
   pub quotients : List (Term Place)
-  pub vector : IsVector ring target (record { degree = v.degree; terms = rest })
-  pub homogeneous : IsHomogeneous ring.weights (degrees_of rows) v.degree quotients
-  pub free : IsReducedBy rows rest
-  pub below : (b : Place) → IsAboveEach (place_cmp ring.weights) b v.terms
-      → IsAboveEach (place_cmp ring.weights) b rest × AllByRecursion (HasMultipleBelow ring.weights rows b) quotients
-  pub sum : row_sum ring rest (row_combination ring rows quotients) ≡ v.terms
+  pub divided : IsDivided ring target rows v.degree v.terms rest quotients
 
 -- a homogeneous list of one degree
 abbrev of_degree : ℤ → List (Term Place) → Vector
@@ -59,120 +54,141 @@ module _ (ring : Ring) (prime : IsOverField ring) (target : List ℤ) (rows : Li
   positive : IsRing ring
   positive = field_ring prime
 
-  divide_none : Division ring target rows (of_degree d [])
-  divide_none = record {
-    rest = [];
-    quotients = [];
+  pub divided_none : IsDivided ring target rows d [] [] []
+  divided_none = record {
     vector = IsVector-nil ring target d;
     homogeneous = tt;
-    free = tt;
+    reduced = tt;
     below = λ b h. (tt, tt);
     sum =
         ap (row_sum ring []) (row_combination-nil ring positive.modulus rows)
         ∙ row_sum-nil_first ring positive.modulus [] (record { descending = tt; residues = tt });
   }
 
-  -- where no lead divides the first term
-  divide_miss : (t : Term Place) (ts : List (Term Place)) → IsVector ring target (of_degree d (t ∷ ts))
-      → is_divided rows t.at ≡ false → Division ring target rows (of_degree d ts)
-      → Division ring target rows (of_degree d (t ∷ ts))
-  divide_miss t ts h none e = record {
-    rest = t ∷ e.rest;
-    quotients = e.quotients;
-    vector = record {
-      canonical = record { descending = ((e.below t.at h.canonical.descending.0).0, e.vector.canonical.descending); residues = (h.canonical.residues.0, e.vector.canonical.residues) };
-      homogeneous = (h.homogeneous.0, e.vector.homogeneous);
-    };
-    homogeneous = e.homogeneous;
-    free = (none, e.free);
-    below = λ b above. let others = e.below b above.1 in ((above.0, others.0), others.1);
-    sum =
-        add-first (place_keys ring.weights) ring.modulus positive.modulus t e.rest
-        (row_combination ring rows e.quotients) ts h.canonical e.sum;
-  }
+  module _ (t : Term Place) (ts : List (Term Place)) (h : IsVector ring target (of_degree d (t ∷ ts))) where
+    -- where no lead divides the first term, the rest takes it over
+    pub divided_miss : (rest quotients : List (Term Place)) → is_divided rows t.at ≡ false
+        → IsDivided ring target rows d ts rest quotients → IsDivided ring target rows d (t ∷ ts) (t ∷ rest) quotients
+    divided_miss rest quotients none e = record {
+      vector = record {
+        canonical = record { descending = ((e.below t.at h.canonical.descending.0).0, e.vector.canonical.descending); residues = (h.canonical.residues.0, e.vector.canonical.residues) };
+        homogeneous = (h.homogeneous.0, e.vector.homogeneous);
+      };
+      homogeneous = e.homogeneous;
+      reduced = (none, e.reduced);
+      below = λ b above. let others = e.below b above.1 in ((above.0, others.0), others.1);
+      sum =
+          add-first (place_keys ring.weights) ring.modulus positive.modulus t rest
+          (row_combination ring rows quotients) ts h.canonical e.sum;
+    }
 
-  -- where the lead of row i does
-  divide_hit : (t : Term Place) (ts : List (Term Place)) → IsVector ring target (of_degree d (t ∷ ts)) → (i : ℕ)
-      → i < length rows → PlaceDivides (lead_at rows i) t.at
-      → ((us : List (Term Place)) → IsVector ring target (of_degree d us) → IsAboveEach (place_cmp ring.weights) t.at us
-      → Division ring target rows (of_degree d us))
-      → Division ring target rows (of_degree d (t ∷ ts))
-  divide_hit t ts h i within divides further =
-      let times = multiple_at ring target rows monic prime i within t h.canonical.residues.0 divides in
-      let us = times.0 in
-      let term = IsTermOfDegree-step ring target rows monic i within d t divides h.homogeneous.0 in
-      let canonical : IsCanonicalRow ring (t ∷ us) =
-      subst (IsCanonicalRow ring) times.1
-      (IsCanonical-row_combination ring positive.modulus rows (step rows i t ∷ [])) in
-      let vector : IsVector ring target (of_degree d (t ∷ us)) = record {
-        canonical = canonical;
+    -- where the lead of row i does
+    module _ (i : ℕ) (within : i < length rows) (divides : PlaceDivides (lead_at rows i) t.at) where
+      whole : row_combination ring rows (step rows i t ∷ []) ≡ t ∷ step_tail ring rows i t
+      whole = multiple_at ring target rows monic prime i within t h.canonical.residues.0 divides
+
+      step_degree : IsHomogeneous ring.weights (degrees_of rows) d (step rows i t ∷ [])
+      step_degree = (IsTermOfDegree-step ring target rows monic i within d t divides h.homogeneous.0, tt)
+
+      whole_vector : IsVector ring target (of_degree d (t ∷ step_tail ring rows i t))
+      whole_vector = record {
+        canonical = subst (IsCanonicalRow ring) whole
+            (IsCanonical-row_combination ring positive.modulus rows (step rows i t ∷ []));
         homogeneous =
-            subst (IsHomogeneous ring.weights target d) times.1
-            (IsHomogeneous-row_combination target ring rows (monic_homogeneous ring target rows monic) d (step rows i t ∷ []) (term, tt));
-      } in
-      let left = row_sum ring ts (negative ring.modulus us) in
-      let left_vector : IsVector ring target (of_degree d left) =
-      IsVector-add ring target positive.modulus d ts (negative ring.modulus us) (IsVector-tail ring target d t ts h)
-      (IsVector-negative ring target d us (IsVector-tail ring target d t us vector)) in
-      let left_below : IsAboveEach (place_cmp ring.weights) t.at left =
-      EachPlace-add (λ k. place_cmp ring.weights k t.at ≡ Less) (place_cmp ring.weights) ring.modulus ts
-      (negative ring.modulus us) h.canonical.descending.0
-      (EachPlace-negative _ ring.modulus us canonical.descending.0) in
-      let e = further left left_vector left_below in
-      record {
-        rest = e.rest;
-        quotients = e.quotients ++ (step rows i t ∷ []);
-        vector = e.vector;
-        homogeneous = AllByRecursion-append _ e.quotients (step rows i t ∷ []) e.homogeneous (term, tt);
-        free = e.free;
-        below = λ b above.
-            let bound : IsAboveEach (place_cmp ring.weights) b left =
-            AllByRecursion-weaken _ _
-            (λ u less. (place_cmp_total ring.weights).trans u.at t.at b less above.0) left left_below in
-            let others = e.below b bound in (
-              others.0,
-              AllByRecursion-append _ e.quotients (step rows i t ∷ []) others.1
-                  ((within, ap (λ k. place_cmp ring.weights k b) (lead_multiple-step rows i t divides) ∙ above.0), tt),
-            );
-        sum =
-            ap (row_sum ring e.rest)
-            (row_combination-append ring positive.modulus rows e.quotients (step rows i t ∷ []))
-            ∙ sym (row_sum-assoc ring positive.modulus e.rest (row_combination ring rows e.quotients) (row_combination ring rows (step rows i t ∷ [])))
-            ∙ (λ j. row_sum ring ((e.sum ∙ sym (add-negative_first (place_keys ring.weights) ring.modulus positive.modulus t ts us h.canonical canonical)) j) (times.1 j))
-            ∙ add-negative_back (place_keys ring.weights) ring.modulus positive.modulus (t ∷ ts)
-            (t ∷ us) h.canonical canonical;
+            subst (IsHomogeneous ring.weights target d) whole
+            (IsHomogeneous-row_combination target ring rows (monic_homogeneous ring target rows monic) d (step rows i t ∷ []) step_degree);
       }
 
-  divide_first : (t : Term Place) (ts : List (Term Place)) → IsVector ring target (of_degree d (t ∷ ts))
-      → ((us : List (Term Place)) → IsVector ring target (of_degree d us) → IsAboveEach (place_cmp ring.weights) t.at us
-      → Division ring target rows (of_degree d us))
-      → Division ring target rows (of_degree d (t ∷ ts))
-  divide_first t ts h further =
-      elim (cases_Bool (is_divided rows t.at)) [
-        | inl divided ↦ let found =
-            is_divided-position rows t.at divided in divide_hit t ts h found.0 found.1 found.2 further
-        | inr none ↦ divide_miss t ts h none (further ts (IsVector-tail ring target d t ts h) h.canonical.descending.0)
-      ]
+      pub left_over-vector : IsVector ring target (of_degree d (left_over ring rows i t ts))
+      left_over-vector =
+          IsVector-add ring target positive.modulus d ts (negative ring.modulus (step_tail ring rows i t))
+          (IsVector-tail ring target d t ts h)
+          (IsVector-negative ring target d (step_tail ring rows i t) (IsVector-tail ring target d t (step_tail ring rows i t) whole_vector))
+
+      pub left_over-below : AreBelow ring.weights t.at (left_over ring rows i t ts)
+      left_over-below =
+          EachPlace-add (λ k. place_cmp ring.weights k t.at ≡ Less) (place_cmp ring.weights) ring.modulus ts
+          (negative ring.modulus (step_tail ring rows i t)) h.canonical.descending.0
+          (EachPlace-negative _ ring.modulus (step_tail ring rows i t) whole_vector.canonical.descending.0)
+
+      -- its multiple is taken away
+      pub divided_hit : (rest quotients : List (Term Place))
+          → IsDivided ring target rows d (left_over ring rows i t ts) rest quotients
+          → IsDivided ring target rows d (t ∷ ts) rest (step rows i t ∷ quotients)
+      divided_hit rest quotients e =
+          let us = step_tail ring rows i t in
+          let left = left_over ring rows i t ts in
+          let multiple = row_combination ring rows (step rows i t ∷ []) in
+          let others = row_combination ring rows quotients in
+          record {
+            vector = e.vector;
+            homogeneous = (step_degree.0, e.homogeneous);
+            reduced = e.reduced;
+            below = λ b above.
+                let bound : AreBelow ring.weights b left =
+                AllByRecursion-weaken _ _
+                (λ u less. (place_cmp_total ring.weights).trans u.at t.at b less above.0) left left_over-below in
+                let further = e.below b bound in (
+                  further.0,
+                  (
+                    (within, ap (λ k. place_cmp ring.weights k b) (lead_multiple-step rows i t divides) ∙ above.0),
+                    further.1,
+                  ),
+                );
+            sum =
+                ap (row_sum ring rest)
+                (row_combination-append ring positive.modulus rows (step rows i t ∷ []) quotients
+                ∙ row_sum-comm ring positive.modulus multiple others)
+                ∙ sym (row_sum-assoc ring positive.modulus rest others multiple)
+                ∙ (λ j. row_sum ring ((e.sum ∙ sym (add-negative_first (place_keys ring.weights) ring.modulus positive.modulus t ts us h.canonical whole_vector.canonical)) j) (whole j))
+                ∙ add-negative_back (place_keys ring.weights) ring.modulus positive.modulus (t ∷ ts)
+                (t ∷ us) h.canonical whole_vector.canonical;
+          }
+
+    divide_first : ((us : List (Term Place)) → IsVector ring target (of_degree d us) → AreBelow ring.weights t.at us
+        → Division ring target rows (of_degree d us))
+        → Division ring target rows (of_degree d (t ∷ ts))
+    divide_first further =
+        elim (cases_Bool (is_divided rows t.at)) [
+          | inl some ↦
+              let found = is_divided-position rows t.at some in
+              let i : ℕ = found.0 in
+              let e =
+              further (left_over ring rows i t ts) (left_over-vector i found.1 found.2)
+              (left_over-below i found.1 found.2) in
+              record {
+                rest = e.rest;
+                quotients = step rows i t ∷ e.quotients;
+                divided = divided_hit i found.1 found.2 e.rest e.quotients e.divided;
+              }
+          | inr none ↦
+              let e = further ts (IsVector-tail ring target d t ts h) h.canonical.descending.0 in
+              record {
+                rest = t ∷ e.rest;
+                quotients = e.quotients;
+                divided = divided_miss e.rest e.quotients none e.divided;
+              }
+        ]
 
   divide_below : (k : Place) (us : List (Term Place)) → IsVector ring target (of_degree d us)
-      → IsAboveEach (place_cmp ring.weights) k us → Division ring target rows (of_degree d us)
+      → AreBelow ring.weights k us → Division ring target rows (of_degree d us)
   divide_below =
       place_induction ring.weights positive.weights (length target)
-      (λ k. (us : List (Term Place)) → IsVector ring target (of_degree d us) → IsAboveEach (place_cmp ring.weights) k us → Division ring target rows (of_degree d us))
+      (λ k. (us : List (Term Place)) → IsVector ring target (of_degree d us) → AreBelow ring.weights k us → Division ring target rows (of_degree d us))
       below_step
     where
       below_step : (k : Place)
           → ((j : Place) → IsBelow ring.weights (length target) j k → (us : List (Term Place))
-          → IsVector ring target (of_degree d us) → IsAboveEach (place_cmp ring.weights) j us
+          → IsVector ring target (of_degree d us) → AreBelow ring.weights j us
           → Division ring target rows (of_degree d us))
-          → (us : List (Term Place)) → IsVector ring target (of_degree d us) → IsAboveEach (place_cmp ring.weights) k us
+          → (us : List (Term Place)) → IsVector ring target (of_degree d us) → AreBelow ring.weights k us
           → Division ring target rows (of_degree d us)
-      below_step k before [] h above = divide_none
+      below_step k before [] h above = record { rest = []; quotients = []; divided = divided_none }
       below_step k before (t ∷ ts) h above = divide_first t ts h (before t.at (above.0, h.homogeneous.0.0))
 
   divide_terms : (us : List (Term Place)) → IsVector ring target (of_degree d us)
       → Division ring target rows (of_degree d us)
-  divide_terms [] h = divide_none
+  divide_terms [] h = record { rest = []; quotients = []; divided = divided_none }
   divide_terms (t ∷ ts) h = divide_first t ts h (divide_below t.at)
 
 -- each homogeneous vector has a division

@@ -24,18 +24,18 @@ lift_exists m prime matrix v h =
     let given : Vector = h.coefficients in
     let e = divide ring prime (row_degrees m) syzygies (basis-monic ring (row_degrees m) (IsSyzygy m) (λ w k. k.coefficients) syzygies b.1) given h.homogeneous in
     let zero : row_combination ring m.rows (row_combination ring syzygies e.quotients) ≡ [] =
-    ((syzygy_submodule m positive).combinations syzygies b.1.inside given.degree e.quotients e.homogeneous).zero in
+    ((syzygy_submodule m positive).combinations syzygies b.1.inside given.degree e.quotients e.divided.homogeneous).zero in
     let terms : row_combination ring m.rows e.rest ≡ row_combination ring m.rows given.terms =
     sym (row_sum-nil ring positive.modulus (row_combination ring m.rows e.rest) (IsCanonical-row_combination ring positive.modulus m.rows e.rest))
     ∙ ap (row_sum ring (row_combination ring m.rows e.rest)) (sym zero)
     ∙ sym (row_combination-add ring positive.modulus m.rows e.rest (row_combination ring syzygies e.quotients))
-    ∙ ap (row_combination ring m.rows) e.sum in (
+    ∙ ap (row_combination ring m.rows) e.divided.sum in (
       record { degree = given.degree; terms = e.rest },
       record {
         syzygies = syzygies;
         basis = b.1;
-        coefficients = e.vector;
+        coefficients = e.divided.vector;
         value = (λ i. record { degree = given.degree; terms = terms i }) ∙ h.value;
-        reduced = e.free;
+        reduced = e.divided.reduced;
       },
     )

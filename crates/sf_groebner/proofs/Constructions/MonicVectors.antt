@@ -8,7 +8,7 @@ use Rattle.std.specs.List.{AllByRecursion}
 use Rattle.sf_algebra.specs.Divisibility.{quotient}
 use Rattle.sf_algebra.specs.Matrices.{degrees_of}
 use Rattle.sf_algebra.specs.MatrixOperations.{row_at, row_combination}
-use Rattle.sf_algebra.specs.Monomials.{monomial_degree}
+use Rattle.sf_algebra.specs.Monomials.{Monomial, monomial_degree}
 use Rattle.sf_algebra.specs.Multiples.{place_product, term_product}
 use Rattle.sf_algebra.specs.Rings.{Ring, IsOverField}
 use Rattle.sf_algebra.specs.Terms.{Term, IsNonzeroResidue}
@@ -22,16 +22,25 @@ use Rattle.sf_algebra.proofs.Multiplying.Keys.{place_keys}
 use Rattle.sf_algebra.proofs.Multiplying.PrimeMultiples.{multiple-map}
 use Rattle.sf_algebra.proofs.Vectors.Degrees.{HasHomogeneousRows}
 use Rattle.sf_algebra.proofs.Vectors.Rows.{row_combination-one}
-use Rattle.sf_groebner.specs.Criterion.{lead_place, lead_at, lead_multiple}
+use Rattle.sf_groebner.specs.Criterion.{IsMonicRow, lead_place, lead_at, lead_multiple}
+use Rattle.sf_groebner.specs.Divisions.{step, step_factor, step_tail, tail_of}
 use Rattle.sf_groebner.specs.Leads.{PlaceDivides}
 use Rattle.sf_groebner.specs.ReducedBases.{lead_divides, is_divided, IsMonic}
+use Rattle.sf_groebner.proofs.Basics.Items.{AllByRecursion-both}
 use Rattle.sf_groebner.proofs.Basics.PlaceDivisors.{Decides-place_divides, place_product-quotient}
-use Rattle.sf_groebner.proofs.PairTheorems.MonicRows.{IsMonic-shape, tail_of}
+use Rattle.sf_groebner.proofs.PairTheorems.MonicRows.{IsMonic-shape}
 
 -- a homogeneous vector whose lead has the coefficient 1
 pub record IsMonicVector (ring : Ring) (target : List ℤ) (v : Vector) : Type 0 where
   pub vector : IsVector ring target v
   pub monic : IsMonic v.terms
+
+-- monic rows that are homogeneous
+pub IsMonicVector-rows : (ring : Ring) (target : List ℤ) (rows : List Vector) → AllByRecursion (IsVector ring target) rows
+    → AllByRecursion (IsMonicRow ring) rows → AllByRecursion (IsMonicVector ring target) rows
+IsMonicVector-rows ring target =
+    AllByRecursion-both (IsVector ring target) (IsMonicRow ring) (IsMonicVector ring target)
+    (λ v h k. record { vector = h; monic = k.monic })
 
 -- what holds of each row holds of that at a position
 pub AllByRecursion-row_at : (P : ℤ → List (Term Place) → Type 0) (rows : List Vector)
@@ -57,13 +66,6 @@ is_divided-position (v ∷ vs) k h =
       | inr there ↦ let found = is_divided-position vs k there in (suc found.0, omega (arith, found.1), found.2)
     ]
 
--- the coefficient at row i that gives a multiple of the row which begins with t
-abbrev pub step : List Vector → ℕ → Term Place → Term Place
-step rows i t = record {
-  at = record { position = i; monomial = quotient t.at.monomial (lead_at rows i).monomial };
-  coefficient = t.coefficient;
-}
-
 pub lead_multiple-step : (rows : List Vector) (i : ℕ) (t : Term Place) → PlaceDivides (lead_at rows i) t.at
     → lead_multiple (lead_at rows) (step rows i t).at ≡ t.at
 lead_multiple-step rows i t h = place_product-quotient (lead_at rows i) t.at h
@@ -77,25 +79,23 @@ module _ (ring : Ring) (target : List ℤ) (rows : List Vector)
   pub monic_homogeneous : HasHomogeneousRows ring.weights target rows
   monic_homogeneous = AllByRecursion-weaken _ _ (λ v h. h.vector.homogeneous) rows monic
 
+  -- the multiple of row i begins with t
   pub multiple_at : IsOverField ring → (i : ℕ) → i < length rows → (t : Term Place) → IsNonzeroResidue ring.modulus t
       → PlaceDivides (lead_at rows i) t.at
-      → (us : List (Term Place)) × (row_combination ring rows (step rows i t ∷ []) ≡ t ∷ us)
+      → row_combination ring rows (step rows i t ∷ []) ≡ t ∷ step_tail ring rows i t
   multiple_at prime i within t nonzero divides =
       let row = monic_row i within in
       let shape = IsMonic-shape (row_at rows i) row.monic in
-      let s : Term _ = record { at = quotient t.at.monomial (lead_at rows i).monomial; coefficient = t.coefficient } in
+      let s : Term Monomial = step_factor rows i t in
       let first : term_product place_product ring.modulus s (record { at = lead_at rows i; coefficient = 1 }) ≡ t =
       λ j. record {
         at = place_product-quotient (lead_at rows i) t.at divides j;
         coefficient = (product_mod-one ring.modulus t.coefficient ∙ mod-eq_of_lt nonzero.1) j;
-      } in (
-        map (term_product place_product ring.modulus s) (tail_of (row_at rows i)),
-        row_combination-one ring (field_ring prime).modulus rows (step rows i t)
-            ∙ multiple-map (place_keys ring.weights) ring.modulus s prime.prime nonzero
-            (row_at rows i) row.vector.canonical
-            ∙ ap (map (term_product place_product ring.modulus s)) shape
-            ∙ ap (λ u. u ∷ map (term_product place_product ring.modulus s) (tail_of (row_at rows i))) first,
-      )
+      } in
+      row_combination-one ring (field_ring prime).modulus rows (step rows i t)
+      ∙ multiple-map (place_keys ring.weights) ring.modulus s prime.prime nonzero (row_at rows i) row.vector.canonical
+      ∙ ap (map (term_product place_product ring.modulus s)) shape
+      ∙ ap (λ u. u ∷ map (term_product place_product ring.modulus s) (tail_of (row_at rows i))) first
 
   -- it has the degree of t
   pub IsTermOfDegree-step : (i : ℕ) → i < length rows → (d : ℤ) (t : Term Place) → PlaceDivides (lead_at rows i) t.at

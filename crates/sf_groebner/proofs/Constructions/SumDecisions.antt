@@ -20,7 +20,7 @@ use Rattle.sf_groebner.specs.Presentations.{IsZero}
 use Rattle.sf_groebner.specs.Spans.{InSpan}
 use Rattle.sf_groebner.proofs.Basics.Decisions.{IsDecided, decide_from}
 use Rattle.sf_groebner.proofs.Constructions.MatrixBases.{span_basis}
-use Rattle.sf_groebner.proofs.Constructions.Rests.{division_exists, rest_none}
+use Rattle.sf_groebner.proofs.Constructions.Rests.{basis_division, rest_none}
 use Rattle.sf_groebner.proofs.PartsOfBases.PairedVectors.{IsVector-pair, paired_terms, paired_terms-parts}
 use Rattle.sf_groebner.proofs.Uniqueness.KeptGenerators.{IsSumAt, IsSumAt-from, IsSumAt-to}
 use Rattle.sf_groebner.proofs.Uniqueness.ReducedCoordinates.{InSpan-sum, IsInSum-span}
@@ -34,7 +34,7 @@ pub decide_span : (m : Matrix) → IsOverField m.ring → IsMatrix m → (v : Ve
     → IsDecided (InSpan m v)
 decide_span m prime matrix v vector =
     let b = span_basis m prime matrix in
-    let e = division_exists m prime matrix b.0 b.1 v vector in
+    let e = basis_division m prime matrix b.0 b.1 v vector in
     let rest : Vector = e.0 in
     let both = rest_none m (field_ring prime) matrix b.0 b.1 v vector rest e.1 e.2 in
     decide_from (rest.terms ≡ []) (InSpan m v) both.0 both.1 (decide_none rest.terms)

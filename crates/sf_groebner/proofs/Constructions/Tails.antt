@@ -13,6 +13,7 @@ use Rattle.sf_algebra.proofs.Monomials.Weights.{field_ring}
 use Rattle.sf_algebra.proofs.Multiplying.Keys.{place_keys}
 use Rattle.sf_algebra.proofs.Vectors.Rows.{IsCanonical-row_combination}
 use Rattle.sf_groebner.specs.Criterion.{lead_place}
+use Rattle.sf_groebner.specs.Divisions.{tail_of}
 use Rattle.sf_groebner.specs.Leads.{place_divides}
 use Rattle.sf_groebner.specs.ReducedBases.{AreApart, IsApart, IsMonic, IsReducedBy, is_divided, lead_divides}
 use Rattle.sf_groebner.proofs.Basics.Items.{AllByRecursion-both, AllByRecursion-from_items, AllByRecursion-item}
@@ -20,7 +21,7 @@ use Rattle.sf_groebner.proofs.Constructions.Antichains.{AreIncomparable, IsAntic
 use Rattle.sf_groebner.proofs.Constructions.Completions.{IsMonicIn, monic_vectors}
 use Rattle.sf_groebner.proofs.Constructions.Divisions.{IsVector-tail, divide}
 use Rattle.sf_groebner.proofs.Constructions.LeadDivisors.{is_divided-none, lead_divides-lead_place}
-use Rattle.sf_groebner.proofs.PairTheorems.MonicRows.{IsMonic-shape, tail_of}
+use Rattle.sf_groebner.proofs.PairTheorems.MonicRows.{IsMonic-shape}
 use Rattle.sf_groebner.proofs.Spanning.Submodules.{IsSubmodule}
 use Rattle.sf_groebner.proofs.Uniqueness.Subtractions.{add-first, add-negative_front}
 
@@ -121,13 +122,13 @@ module _ (ring : Ring) (prime : IsOverField ring) (target : List ℤ) (N : Vecto
       let e = divide ring prime target rows (monic_vectors ring prime target N submodule rows monic) (record { degree = v.degree; terms = us }) (IsVector-tail ring target v.degree lead us vector) in
       let multiples : Vector = record { degree = v.degree; terms = row_combination ring rows e.quotients } in
       let canonical : IsCanonicalRow ring (lead ∷ e.rest) = record {
-        descending = ((e.below lead.at vector.canonical.descending.0).0, e.vector.canonical.descending);
-        residues = (vector.canonical.residues.0, e.vector.canonical.residues);
+        descending = ((e.divided.below lead.at vector.canonical.descending.0).0, e.divided.vector.canonical.descending);
+        residues = (vector.canonical.residues.0, e.divided.vector.canonical.residues);
       } in
       let back : row_sum ring us (negative ring.modulus multiples.terms) ≡ e.rest =
-      ap (λ ts. row_sum ring ts (negative ring.modulus multiples.terms)) (sym e.sum)
+      ap (λ ts. row_sum ring ts (negative ring.modulus multiples.terms)) (sym e.divided.sum)
       ∙ add-negative_front
-      (place_keys ring.weights) ring.modulus positive.modulus e.rest multiples.terms e.vector.canonical
+      (place_keys ring.weights) ring.modulus positive.modulus e.rest multiples.terms e.divided.vector.canonical
       (IsCanonical-row_combination ring positive.modulus rows e.quotients) in
       let terms : row_sum ring v.terms (negative ring.modulus multiples.terms) ≡ lead ∷ e.rest =
       ap (λ ts. row_sum ring ts (negative ring.modulus multiples.terms)) shape
@@ -135,8 +136,8 @@ module _ (ring : Ring) (prime : IsOverField ring) (target : List ℤ) (N : Vecto
       (negative ring.modulus multiples.terms) e.rest canonical back in (
         record { degree = v.degree; terms = lead ∷ e.rest },
         subst N (λ i. record { degree = v.degree; terms = terms i })
-            (submodule.module_like.differences v multiples h (submodule.combinations rows (AllByRecursion-weaken _ _ (λ w k. k.0) rows monic) v.degree e.quotients e.homogeneous) refl),
-        record { tail = e.rest; terms = refl; free = e.free },
+            (submodule.module_like.differences v multiples h (submodule.combinations rows (AllByRecursion-weaken _ _ (λ w k. k.0) rows monic) v.degree e.quotients e.divided.homogeneous) refl),
+        record { tail = e.rest; terms = refl; free = e.divided.reduced },
         refl,
       )
 

@@ -2,22 +2,21 @@
 use Rattle.std.proofs.Common.{◌≡◌, ℕ, ◌<◌, List, [], length, refl, sym, subst, ℤ}
 use Rattle.std.specs.List.{AllByRecursion}
 use Rattle.sf_algebra.specs.Matrices.{degrees_of}
-use Rattle.sf_algebra.specs.Rings.{Ring, IsRing, IsOverField}
+use Rattle.sf_algebra.specs.Rings.{Ring, IsRing}
 use Rattle.sf_algebra.specs.Terms.{Term}
 use Rattle.sf_algebra.specs.Vectors.{Place, Vector, place_degree, IsTermOfDegree, IsHomogeneous}
 use Rattle.sf_algebra.proofs.Basics.Lists.{AllByRecursion-weaken}
 use Rattle.sf_algebra.proofs.Monomials.Divisors.{lcm-multiple}
-use Rattle.sf_algebra.proofs.Monomials.Weights.{field_ring}
 use Rattle.sf_groebner.specs.Criterion.{IsMonicRow, HaveLeadsAtOnePosition, ReducesToZero, lcm_place, lead_at, s_coefficients, s_vector}
+use Rattle.sf_groebner.specs.Divisions.{IsDivided}
 use Rattle.sf_groebner.specs.Leads.{PlaceDivides}
-use Rattle.sf_groebner.proofs.Constructions.Divisions.{Division}
 use Rattle.sf_groebner.proofs.Constructions.MonicVectors.{IsMonicVector, IsTermOfDegree-step, monic_row}
 use Rattle.sf_groebner.proofs.PairLoops.GrowingRows.{ReducesToZero-divided}
 use Rattle.sf_groebner.proofs.PairTheorems.MonicRows.{IsMonic-shape}
 use Rattle.sf_groebner.proofs.PairTheorems.Pairs.{lcm_place-comm}
 use Rattle.sf_groebner.proofs.PairTheorems.SVectors.{s_vector-below}
 
-module _ (ring : Ring) (prime : IsOverField ring) (target : List ℤ) (rows : List Vector)
+module _ (ring : Ring) (positive : IsRing ring) (target : List ℤ) (rows : List Vector)
     (monic : AllByRecursion (IsMonicVector ring target) rows)
     (i j : ℕ) (i_in : i < length rows) (j_in : j < length rows) (positions : HaveLeadsAtOnePosition rows i j) where
   -- the least common multiple of the leads, with the coefficient 1
@@ -59,10 +58,9 @@ module _ (ring : Ring) (prime : IsOverField ring) (target : List ℤ) (rows : Li
   )
 
   -- a division without a rest reduces the pair to zero
-  pub ReducesToZero-division : (e : Division ring target rows
-      (record { degree = pair_degree; terms = s_vector ring rows i j })) → e.rest ≡ [] → ReducesToZero ring rows i j
-  ReducesToZero-division e none =
-      let positive : IsRing ring = field_ring prime in
-      ReducesToZero-divided ring positive rows i j e.rest
-      (record { steps = e.quotients; below = (e.below pair_lcm.at (s_vector-below ring positive rows monic_rows i j i_in j_in positions)).1; sum = e.sum })
-      none
+  pub ReducesToZero-division : (d : ℤ) (quotients : List (Term Place))
+      → IsDivided ring target rows d (s_vector ring rows i j) [] quotients → ReducesToZero ring rows i j
+  ReducesToZero-division d quotients e =
+      ReducesToZero-divided ring positive rows i j []
+      (record { steps = quotients; below = (e.below pair_lcm.at (s_vector-below ring positive rows monic_rows i j i_in j_in positions)).1; sum = e.sum })
+      refl

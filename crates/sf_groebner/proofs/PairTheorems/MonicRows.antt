@@ -9,15 +9,11 @@ use Rattle.sf_algebra.specs.Rings.{Ring}
 use Rattle.sf_algebra.specs.Terms.{Term}
 use Rattle.sf_algebra.specs.Vectors.{Place, Vector, place_cmp, IsCanonicalRow}
 use Rattle.sf_groebner.specs.Criterion.{IsMonicRow, lead_multiple, lead_at, lead_place}
+use Rattle.sf_groebner.specs.Divisions.{tail_of}
 use Rattle.sf_groebner.specs.ReducedBases.{HasDividedLead, IsMonic, is_divided, lead_divides}
 use Rattle.sf_groebner.proofs.Basics.PlaceDivisors.{Decides-place_divides, PlaceDivides-place_product}
 use Rattle.sf_groebner.proofs.PairTheorems.LeadMultiples.{HasLeads}
 use Rattle.sf_groebner.proofs.PairTheorems.TopCoefficients.{Begins}
-
--- the terms after the first one
-abbrev pub tail_of : List (Term Place) → List (Term Place)
-tail_of [] = []
-tail_of (t ∷ ts) = ts
 
 -- more than the position of the lead of each row
 abbrev pub lead_bound : List Vector → ℕ

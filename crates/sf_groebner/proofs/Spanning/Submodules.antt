@@ -17,7 +17,7 @@ use Rattle.sf_algebra.proofs.Monomials.Weights.{field_ring}
 use Rattle.sf_algebra.proofs.Multiplying.Keys.{place_keys}
 use Rattle.sf_algebra.proofs.Multiplying.PrimeMultiples.{multiple-map}
 use Rattle.sf_algebra.proofs.Vectors.Rows.{IsCanonical-row_combination, row_combination-one}
-use Rattle.sf_groebner.proofs.Constructions.Divisions.{Division}
+use Rattle.sf_groebner.specs.Divisions.{IsDivided}
 use Rattle.sf_groebner.proofs.Spanning.Modules.{IsModuleLike}
 use Rattle.sf_groebner.proofs.Uniqueness.Subtractions.{add-negative_front}
 
@@ -35,22 +35,25 @@ pub record HasMonicAt (N : Vector → Type 0) (k : Place) : Type 0 where
   pub tail : List (Term Place)
   pub terms : vector.terms ≡ record { at = k; coefficient = 1 } ∷ tail
 
-module _ (ring : Ring) (prime : IsOverField ring) (target : List ℤ) (N : Vector → Type 0)
+module _ (ring : Ring) (positive : IsRing ring) (target : List ℤ) (N : Vector → Type 0)
     (submodule : IsSubmodule ring target N) where
   -- the rest of a division by vectors of the module
-  pub rest-inside : (rows : List Vector) → AllByRecursion N rows → (v : Vector) → N v
-      → (e : Division ring target rows v) → N (record { degree = v.degree; terms = e.rest })
-  rest-inside rows inside v h e =
-      let multiples : Vector = record { degree = v.degree; terms = row_combination ring rows e.quotients } in
-      let positive : IsRing ring = field_ring prime in
-      let back : row_sum ring v.terms (negative ring.modulus multiples.terms) ≡ e.rest =
-      ap (λ ts. row_sum ring ts (negative ring.modulus multiples.terms)) (sym e.sum)
+  pub rest_inside : (rows : List Vector) → AllByRecursion N rows → (d : ℤ) (ts rest quotients : List (Term Place))
+      → N (record { degree = d; terms = ts })
+      → IsDivided ring target rows d ts rest quotients → N (record { degree = d; terms = rest })
+  rest_inside rows inside d ts rest quotients h e =
+      let v : Vector = record { degree = d; terms = ts } in
+      let multiples : Vector = record { degree = d; terms = row_combination ring rows quotients } in
+      let back : row_sum ring ts (negative ring.modulus multiples.terms) ≡ rest =
+      ap (λ us. row_sum ring us (negative ring.modulus multiples.terms)) (sym e.sum)
       ∙ add-negative_front
-      (place_keys ring.weights) ring.modulus positive.modulus e.rest multiples.terms e.vector.canonical
-      (IsCanonical-row_combination ring positive.modulus rows e.quotients) in
-      subst N (λ i. record { degree = v.degree; terms = back i })
-      (submodule.module_like.differences v multiples h (submodule.combinations rows inside v.degree e.quotients e.homogeneous) refl)
+      (place_keys ring.weights) ring.modulus positive.modulus rest multiples.terms e.vector.canonical
+      (IsCanonical-row_combination ring positive.modulus rows quotients) in
+      subst N (λ i. record { degree = d; terms = back i })
+      (submodule.module_like.differences v multiples h (submodule.combinations rows inside d quotients e.homogeneous) refl)
 
+module _ (ring : Ring) (prime : IsOverField ring) (target : List ℤ) (N : Vector → Type 0)
+    (submodule : IsSubmodule ring target N) where
   -- a nonzero vector, by the inverse of its first coefficient
   pub monic_multiple : (d : ℤ) (t : Term Place) (ts : List (Term Place)) → N (record { degree = d; terms = t ∷ ts })
       → HasMonicAt N t.at

@@ -14,7 +14,7 @@ use Rattle.sf_groebner.proofs.Constructions.Divisions.{Division, divide}
 use Rattle.sf_groebner.proofs.Constructions.MonicVectors.{IsMonicVector}
 use Rattle.sf_groebner.proofs.Spanning.Generators.{IsCombination}
 use Rattle.sf_groebner.proofs.Spanning.SpanCombinations.{InSpan-IsCombination, IsCombination-InSpan, zero-inside, submodule_closed}
-use Rattle.sf_groebner.proofs.Spanning.Submodules.{IsSubmodule, rest-inside}
+use Rattle.sf_groebner.proofs.Spanning.Submodules.{IsSubmodule, rest_inside}
 use Rattle.sf_groebner.proofs.Spanning.SumsAndMultiples.{HasSumsAndMultiples}
 use Rattle.sf_groebner.proofs.Uniqueness.KeptGenerators.{IsSumAt-to, IsSumAt-from, HasSameSums, left_out, taken_in}
 use Rattle.sf_groebner.proofs.Uniqueness.Remainders.{IsReducedBy-none}
@@ -29,14 +29,14 @@ module _ (ring : Ring) (prime : IsOverField ring) (target : List ℤ) (N : Vecto
       let rows = AllByRecursion-both N (λ (w : Vector). IsMonic w.terms) (IsMonicVector ring target) (λ w a b. record { vector = submodule.module_like.vectors w a; monic = b }) basis h.inside h.monic in
       let e : Division ring target basis v =
       divide ring prime target basis rows v (submodule.module_like.vectors v inside) in
-      let none : e.rest ≡ [] = IsReducedBy-none basis e.rest e.free (h.complete (record { degree = v.degree; terms = e.rest }) (rest-inside ring prime target N submodule basis h.inside v inside e)) in
+      let none : e.rest ≡ [] = IsReducedBy-none basis e.rest e.divided.reduced (h.complete (record { degree = v.degree; terms = e.rest }) (rest_inside ring positive target N submodule basis h.inside v.degree v.terms e.rest e.quotients inside e.divided)) in
       record {
         coefficients = e.quotients;
-        homogeneous = e.homogeneous;
+        homogeneous = e.divided.homogeneous;
         value =
             sym (row_sum-nil_first ring positive.modulus (row_combination ring basis e.quotients) (IsCanonical-row_combination ring positive.modulus basis e.quotients))
             ∙ ap (λ ts. row_sum ring ts (row_combination ring basis e.quotients)) (sym none)
-            ∙ e.sum;
+            ∙ e.divided.sum;
       }
 
 module _ (ring : Ring) (positive : IsRing ring) (target : List ℤ) (B : Vector → Type 0)

@@ -1,4 +1,6 @@
 use Rattle.std.proofs.Common.{ℕ, ◌<◌, arith}
+use Rattle.sf_groebner.proofs.Constructions.MonicVectors.{IsMonicVector-rows}
+use Rattle.sf_groebner.proofs.PairLoops.HomogeneousPairs.{ReducesToZero-division}
 use Rattle.sf_groebner.proofs.PairTheorems.BoundedCriterion.{buchberger_up_to}
 use Rattle.sf_groebner.proofs.PairTheorems.Buchberger.{ReducesToZero-chain, ReducesToZero-sym, buchberger}
 use Rattle.sf_groebner.proofs.PairTheorems.Representations.{ReducesToZero-complete}
@@ -21,5 +23,8 @@ returns c = record {
       (λ i j earlier later positions bound. pairs i j (record { earlier = earlier; later = later; positions = positions }) bound);
   leads = λ ring positive rows monic i j pair. s_vector-below ring positive rows monic i j (before i j _ pair.earlier pair.later) pair.later pair.positions;
   either_order = ReducesToZero-sym;
+  divisions = λ m positive is_matrix monic i j pair d quotients e.
+      ReducesToZero-division m.ring positive m.target m.rows (IsMonicVector-rows m.ring m.target m.rows is_matrix monic)
+      i j (before i j _ pair.earlier pair.later) pair.later pair.positions d quotients e;
   chains = ReducesToZero-chain;
 }
