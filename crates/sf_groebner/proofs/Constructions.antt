@@ -9,6 +9,7 @@ pub mod Tails
 pub mod SortedRows
 pub mod ReducedExistence
 pub mod MatrixBases
+pub mod LargeMatrices
 pub mod Rests
 pub mod LiftExistence
 pub mod SumDecisions

@@ -4,3 +4,4 @@ pub mod PendingPairs
 pub mod PendingDegrees
 pub mod HandledPairs
 pub mod HomogeneousPairs
+pub mod NeededLeads

@@ -3,6 +3,8 @@ pub mod LeadLaws
 pub mod Spans
 pub mod ReducedBases
 pub mod Small
+pub mod NeededLeads
+pub mod LargeLaws
 pub mod Lifts
 pub mod MinimalGenerators
 pub mod Divisions

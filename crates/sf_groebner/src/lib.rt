@@ -10,6 +10,7 @@ mod criterion;
 mod examples;
 mod existence;
 mod graph;
+mod large;
 mod lead;
 mod lift;
 mod minimal;
@@ -25,6 +26,7 @@ pub use existence::{
     presentations_exist, reduced_bases_exist,
 };
 pub use graph::graph_parts;
+pub use large::needed_leads_decide_large;
 pub use lead::divisors_are_tested;
 pub use lift::{coordinates_are_unique, lifts_are_unique};
 pub use minimal::{minimal_generators_are_chosen, minimal_generators_are_unique};

@@ -31,7 +31,7 @@ use Rattle.sf_groebner.proofs.Spanning.Generators.{AreGenerators, IsCombination,
 use Rattle.sf_groebner.proofs.Spanning.Submodules.{HasMonicAt, IsSubmodule, monic_multiple, rest_inside}
 
 -- a fact of each item, or one that an item gives
-each_or : {X : Type 0} (R P : X → Type 0) (Q : Type 0) → ((x : X) → R x → P x ⊎ Q) → (xs : List X) → AllByRecursion R xs
+pub each_or : {X : Type 0} (R P : X → Type 0) (Q : Type 0) → ((x : X) → R x → P x ⊎ Q) → (xs : List X) → AllByRecursion R xs
     → AllByRecursion P xs ⊎ Q
 each_or R P Q f [] h = inl tt
 each_or R P Q f (x ∷ xs) h = elim (f x h.0) [
