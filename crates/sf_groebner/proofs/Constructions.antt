@@ -12,6 +12,9 @@ pub mod MatrixBases
 pub mod LargeMatrices
 pub mod Rests
 pub mod LiftExistence
+pub mod Reductions
+pub mod OwnSpans
+pub mod SmallParts
 pub mod SumDecisions
 pub mod MinimalExistence
 pub mod PresentationExistence

@@ -6,5 +6,6 @@ pub mod ReducedParts
 pub mod FirstParts
 pub mod GraphParts
 pub mod GraphLifts
+pub mod GraphVectors
 pub mod StackedSpans
 pub mod Relations

@@ -15,7 +15,12 @@ pub mod Resolutions
 pub mod Criterion
 pub mod BasisLaws
 pub mod Cuts
+pub mod BasisParts
 pub mod CutLaws
+pub mod GraphLaws
+pub mod Reductions
+pub mod ReductionLaws
+pub mod OwnSpanLaws
 pub mod LiftLaws
 pub mod CriterionLaws
 pub mod PresentationLaws

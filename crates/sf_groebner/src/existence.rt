@@ -1,4 +1,5 @@
 ghost use Rattle.sf_groebner.specs.ExistenceLaws.{HasGraphBasis, HasSpanBasis, HasSyzygyBasis, HasAnswer, HasNoOtherAnswer, HasDivisions, HasDivisionsByBases, HasOneRest, HasRestInside, HasReducedVector, HasLifts};
+ghost use Rattle.sf_groebner.specs.ReductionLaws.{HasReductions, HasOneReduction, ReducesSpanToZero, LeavesLifts};
 ghost use Rattle.sf_groebner.specs.PresentationExistenceLaws.{HasHomology, HasKernel, HasImage, HasCokernel, HasResolution};
 
 /// Modulo a prime the graph, the span and the syzygies of a matrix have reduced bases.
@@ -27,6 +28,15 @@ pub fn each_vector_has_one_rest()
 /// Modulo a prime each vector of a span has a lift.
 pub fn each_vector_of_a_span_has_a_lift()
     ensures exists { HasLifts }
+{}
+
+/// Modulo a prime each vector is in one way the sum of one that is reduced by relations and of a combination of theirs with
+/// reduced coefficients. The former is 0 exactly where the vector is in the span, and the latter are then its lift.
+pub fn each_vector_has_one_reduction()
+    ensures exists { HasReductions }
+    ensures unique { HasOneReduction }
+    ensures zero { ReducesSpanToZero }
+    ensures lifts { LeavesLifts }
 {}
 
 /// Modulo a prime the places of complexes have homology, maps have kernels, images and cokernels, and presented modules have

@@ -1,4 +1,12 @@
 ghost use Rattle.sf_groebner.specs.CutLaws.{HasSpanOfValues, HasSyzygiesOfOthers, HasLiftsOfValues};
+ghost use Rattle.sf_groebner.specs.GraphLaws.{HasGraphVectors, HasOneGraphVector, HasCoefficients};
+
+/// For each coefficients c the graph of a matrix M has exactly one vector, which is (c M, c); and it has no others.
+pub fn graph_vectors_are_pairs()
+    ensures exists { HasGraphVectors }
+    ensures unique { HasOneGraphVector }
+    ensures coefficients { HasCoefficients }
+{}
 
 /// The reduced basis of the graph of a matrix gives those of its span and its syzygies, and the lifts of the first.
 pub fn graph_parts()

@@ -39,7 +39,7 @@ module _ (ring : Ring) (positive : IsRing ring) where
   plus us vs = row_sum ring us vs
 
   -- where two sums are equal, the differences of their parts are
-  add-negative_exchange : (u v x y : List (Term Place)) → IsCanonicalRow ring u → IsCanonicalRow ring v
+  pub add-negative_exchange : (u v x y : List (Term Place)) → IsCanonicalRow ring u → IsCanonicalRow ring v
       → IsCanonicalRow ring x → IsCanonicalRow ring y → plus u x ≡ plus v y
       → plus y (negative ring.modulus x) ≡ plus u (negative ring.modulus v)
   add-negative_exchange u v x y hu hv hx hy e =

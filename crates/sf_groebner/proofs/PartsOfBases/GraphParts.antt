@@ -57,12 +57,12 @@ module _ (m : Matrix) where
     abbrev pub IsValue : Vector → Type 0
     IsValue c = IsVector m.ring m.target (combined m c)
 
-    graph_of-first : (c : Vector) → IsValue c → value_terms m (graph_of c).terms ≡ row_combination m.ring m.rows c.terms
+    pub graph_of-first : (c : Vector) → IsValue c → value_terms m (graph_of c).terms ≡ row_combination m.ring m.rows c.terms
     graph_of-first c h =
         part_terms-pair_first (length m.target) (row_combination m.ring m.rows c.terms) c.terms
         (IsWithin-IsVector m.ring m.target (combined m c) h)
 
-    graph_of-last : (c : Vector) → IsValue c → IsCoefficients m c → coefficient_terms m (graph_of c).terms ≡ c.terms
+    pub graph_of-last : (c : Vector) → IsValue c → IsCoefficients m c → coefficient_terms m (graph_of c).terms ≡ c.terms
     graph_of-last c h k =
         part_terms-pair_last (length m.target) (length m.rows) (row_combination m.ring m.rows c.terms) c.terms
         (IsWithin-IsVector m.ring m.target (combined m c) h) (IsWithin-coefficients m c k)
