@@ -1,5 +1,5 @@
 -- Lists of vectors that are apart can be sorted: insertion one by one.
-use Rattle.std.proofs.Common.{◌≡◌, ◌≢◌, Bool, true, false, inl, inr, List, [], ◌∷◌, ◌∙◌, ap, subst}
+use Rattle.std.proofs.Common.{◌≡◌, ◌≢◌, Bool, true, false, inl, inr, suc, List, [], ◌∷◌, length, refl, ◌∙◌, ap, subst}
 use Rattle.std.proofs.lemmas.Bool.{or_cases, or_left, or_parts, or_right}
 use Rattle.std.proofs.lemmas.Cmp.{int_cmp_total}
 use Rattle.std.specs.declared.cmp.Ordering.TheVariants.{Less, Equal}
@@ -134,6 +134,21 @@ unfolding sort_rows
 AllByRecursion-sort_rows weights P [] h = tt
 AllByRecursion-sort_rows weights P (v ∷ vs) h =
     AllByRecursion-insert_row weights P v (sort_rows weights vs) h.0 (AllByRecursion-sort_rows weights P vs h.1)
+
+length-insert_row : (weights : Weights) (v : Vector) (ws : List Vector)
+    → length (insert_row weights v ws) ≡ suc (length ws)
+unfolding insert_row
+length-insert_row weights v [] = refl
+length-insert_row weights v (w ∷ ws) =
+    match_ordering_cases (row_cmp weights v w) _ _ _ (λ (l : List Vector). length l ≡ suc (length (w ∷ ws)))
+    (λ less. refl) (λ equal. refl) (λ greater. ap suc (length-insert_row weights v ws))
+
+-- as many rows as before
+pub length-sort_rows : (weights : Weights) (vs : List Vector) → length (sort_rows weights vs) ≡ length vs
+unfolding sort_rows
+length-sort_rows weights [] = refl
+length-sort_rows weights (v ∷ vs) =
+    length-insert_row weights v (sort_rows weights vs) ∙ ap suc (length-sort_rows weights vs)
 
 pub is_divided-sort_rows : (weights : Weights) (vs : List Vector) (k : Place) → is_divided vs k ≡ true
     → is_divided (sort_rows weights vs) k ≡ true

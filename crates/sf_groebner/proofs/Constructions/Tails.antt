@@ -1,26 +1,27 @@
 -- Rows whose tails are reduced by the leads of all rows. (Cox, Little, O'Shea, "Using Algebraic Geometry", chapter 5,
 -- section 2.)
-use Rattle.std.proofs.Common.{◌≡◌, false, ◌||◌, List, [], ◌∷◌, refl, sym, ◌∙◌, ap, subst, ℤ}
+use Rattle.std.proofs.Common.{◌≡◌, false, ◌||◌, ℕ, suc, List, [], ◌∷◌, length, refl, sym, ◌∙◌, ap, subst, ℤ}
 use Rattle.std.specs.List.{AllByRecursion}
 use Rattle.sf_algebra.specs.MatrixOperations.{row_combination}
 use Rattle.sf_algebra.specs.Multiples.{negative}
-use Rattle.sf_algebra.specs.Rings.{Ring, IsRing, IsOverField}
+use Rattle.sf_algebra.specs.Rings.{Ring, Weights, IsRing, IsOverField}
 use Rattle.sf_algebra.specs.Terms.{Term}
-use Rattle.sf_algebra.specs.VectorOperations.{row_sum}
+use Rattle.sf_algebra.specs.VectorOperations.{row_sum, vector_difference}
 use Rattle.sf_algebra.specs.Vectors.{Place, Vector, IsVector, IsCanonicalRow}
 use Rattle.sf_algebra.proofs.Basics.Lists.{AllByRecursion-weaken}
-use Rattle.sf_algebra.proofs.Monomials.Weights.{field_ring}
 use Rattle.sf_algebra.proofs.Multiplying.Keys.{place_keys}
 use Rattle.sf_algebra.proofs.Vectors.Rows.{IsCanonical-row_combination}
 use Rattle.sf_groebner.specs.Criterion.{lead_place}
-use Rattle.sf_groebner.specs.Divisions.{tail_of}
+use Rattle.sf_groebner.specs.Divisions.{IsDivided, tail_of}
 use Rattle.sf_groebner.specs.Leads.{place_divides}
 use Rattle.sf_groebner.specs.ReducedBases.{AreApart, IsApart, IsMonic, IsReducedBy, is_divided, lead_divides}
+use Rattle.sf_groebner.specs.Small.{HasLeadUpTo}
 use Rattle.sf_groebner.proofs.Basics.Items.{AllByRecursion-both, AllByRecursion-from_items, AllByRecursion-item}
 use Rattle.sf_groebner.proofs.Constructions.Antichains.{AreIncomparable, IsAntichain}
-use Rattle.sf_groebner.proofs.Constructions.Completions.{IsMonicIn, monic_vectors}
+use Rattle.sf_groebner.proofs.Constructions.Completions.{IsMonicIn}
 use Rattle.sf_groebner.proofs.Constructions.Divisions.{IsVector-tail, divide}
 use Rattle.sf_groebner.proofs.Constructions.LeadDivisors.{is_divided-none, lead_divides-lead_place}
+use Rattle.sf_groebner.proofs.Constructions.MonicVectors.{IsMonicVector}
 use Rattle.sf_groebner.proofs.PairTheorems.MonicRows.{IsMonic-shape}
 use Rattle.sf_groebner.proofs.Spanning.Submodules.{IsSubmodule}
 use Rattle.sf_groebner.proofs.Uniqueness.Subtractions.{add-first, add-negative_front}
@@ -100,70 +101,127 @@ IsApart-reduced rows (v ∷ vs) h fewer far = (
   IsApart-reduced rows vs h.1 fewer.1 far.1,
 )
 
--- rows of the module whose leads are those of given rows, and whose tails these reduce
-pub record ReducedRows (N : Vector → Type 0) (rows : List Vector) : Type 0 where
-  pub reduced : List Vector
-  pub inside : AllByRecursion N reduced
-  pub monic : AreMonic reduced
-  pub divides : (k : Place) → is_divided reduced k ≡ is_divided rows k
-  pub apart : IsApart reduced
+-- w has the lead of v, and behind it the rest of what stands behind the lead of v
+pub record HasReducedTail (ring : Ring) (target : List ℤ) (rows : List Vector) (v w : Vector) : Type 0 where
+  pub rest : List (Term Place)
+  pub quotients : List (Term Place)
+  pub divided : IsDivided ring target rows v.degree (tail_of v.terms) rest quotients
+  pub row : w ≡ record { degree = v.degree; terms = record { at = lead_place v.terms; coefficient = 1 } ∷ rest }
 
-module _ (ring : Ring) (prime : IsOverField ring) (target : List ℤ) (N : Vector → Type 0)
+-- one by one
+abbrev pub HaveReducedTails : Ring → List ℤ → List Vector → List Vector → List Vector → Type 0
+HaveReducedTails ring target rows [] [] = Unit {0}
+HaveReducedTails ring target rows [] (w ∷ ws) = ⊥
+HaveReducedTails ring target rows (v ∷ vs) [] = ⊥
+HaveReducedTails ring target rows (v ∷ vs) (w ∷ ws) =
+    HasReducedTail ring target rows v w × HaveReducedTails ring target rows vs ws
+
+-- as many rows
+pub HaveReducedTails-length : (ring : Ring) (target : List ℤ) (rows vs ws : List Vector)
+    → HaveReducedTails ring target rows vs ws → length ws ≡ length vs
+HaveReducedTails-length ring target rows [] [] h = refl
+HaveReducedTails-length ring target rows [] (w ∷ ws) h = absurd h
+HaveReducedTails-length ring target rows (v ∷ vs) [] h = absurd h
+HaveReducedTails-length ring target rows (v ∷ vs) (w ∷ ws) h =
+    ap suc (HaveReducedTails-length ring target rows vs ws h.1)
+
+-- leads that are the same, low where the others are
+pub HaveReducedTails-low : (ring : Ring) (target : List ℤ) (weights : Weights) (limit : ℕ) (rows vs ws : List Vector)
+    → AllByRecursion (λ (v : Vector). IsMonic v.terms) vs → HaveReducedTails ring target rows vs ws
+    → AllByRecursion (λ (v : Vector). HasLeadUpTo weights limit v.terms) vs
+    → AllByRecursion (λ (v : Vector). HasLeadUpTo weights limit v.terms) ws
+HaveReducedTails-low ring target weights limit rows [] [] monic h low = tt
+HaveReducedTails-low ring target weights limit rows [] (w ∷ ws) monic h low = absurd h
+HaveReducedTails-low ring target weights limit rows (v ∷ vs) [] monic h low = absurd h
+HaveReducedTails-low ring target weights limit rows (v ∷ vs) (w ∷ ws) monic h low = (
+  subst (λ (x : Vector). HasLeadUpTo weights limit x.terms) (sym h.0.row)
+      (subst (HasLeadUpTo weights limit) (IsMonic-shape v.terms monic.0) low.0),
+  HaveReducedTails-low ring target weights limit rows vs ws monic.1 h.1 low.1,
+)
+
+-- rows with their tails reduced by monic rows of the module whose leads don't divide each other
+module _ (ring : Ring) (positive : IsRing ring) (target : List ℤ) (N : Vector → Type 0)
     (submodule : IsSubmodule ring target N)
     (rows : List Vector) (monic : AllByRecursion (IsMonicIn N) rows) where
-  reduced_row : (v : Vector) → N v → IsMonic v.terms
-      → (w : Vector) × N w × IsReducedRow rows w × (lead_place w.terms ≡ lead_place v.terms)
-  reduced_row v h one =
-      let positive : IsRing ring = field_ring prime in
+  row_with_rest : (v w : Vector) → N v → IsMonic v.terms → HasReducedTail ring target rows v w
+      → N w × IsReducedRow rows w × (lead_place w.terms ≡ lead_place v.terms)
+  row_with_rest v w h one e =
       let lead : Term Place = record { at = lead_place v.terms; coefficient = 1 } in
       let us = tail_of v.terms in
+      let rest = e.rest in
       let shape : v.terms ≡ lead ∷ us = IsMonic-shape v.terms one in
       let vector : IsVector ring target (record { degree = v.degree; terms = lead ∷ us }) = subst (λ ts. IsVector ring target (record { degree = v.degree; terms = ts })) shape (submodule.module_like.vectors v h) in
-      let e = divide ring prime target rows (monic_vectors ring prime target N submodule rows monic) (record { degree = v.degree; terms = us }) (IsVector-tail ring target v.degree lead us vector) in
       let multiples : Vector = record { degree = v.degree; terms = row_combination ring rows e.quotients } in
-      let canonical : IsCanonicalRow ring (lead ∷ e.rest) = record {
+      let canonical : IsCanonicalRow ring (lead ∷ rest) = record {
         descending = ((e.divided.below lead.at vector.canonical.descending.0).0, e.divided.vector.canonical.descending);
         residues = (vector.canonical.residues.0, e.divided.vector.canonical.residues);
       } in
-      let back : row_sum ring us (negative ring.modulus multiples.terms) ≡ e.rest =
+      let back : row_sum ring us (negative ring.modulus multiples.terms) ≡ rest =
       ap (λ ts. row_sum ring ts (negative ring.modulus multiples.terms)) (sym e.divided.sum)
       ∙ add-negative_front
-      (place_keys ring.weights) ring.modulus positive.modulus e.rest multiples.terms e.divided.vector.canonical
+      (place_keys ring.weights) ring.modulus positive.modulus rest multiples.terms e.divided.vector.canonical
       (IsCanonical-row_combination ring positive.modulus rows e.quotients) in
-      let terms : row_sum ring v.terms (negative ring.modulus multiples.terms) ≡ lead ∷ e.rest =
+      let terms : row_sum ring v.terms (negative ring.modulus multiples.terms) ≡ lead ∷ rest =
       ap (λ ts. row_sum ring ts (negative ring.modulus multiples.terms)) shape
       ∙ add-first (place_keys ring.weights) ring.modulus positive.modulus lead us
-      (negative ring.modulus multiples.terms) e.rest canonical back in (
-        record { degree = v.degree; terms = lead ∷ e.rest },
-        subst N (λ i. record { degree = v.degree; terms = terms i })
-            (submodule.module_like.differences v multiples h (submodule.combinations rows (AllByRecursion-weaken _ _ (λ w k. k.0) rows monic) v.degree e.quotients e.divided.homogeneous) refl),
-        record { tail = e.rest; terms = refl; free = e.divided.reduced },
-        refl,
+      (negative ring.modulus multiples.terms) rest canonical back in
+      let same : vector_difference ring v multiples ≡ w =
+      (λ i. record { degree = v.degree; terms = terms i }) ∙ sym e.row in (
+        subst N same
+            (submodule.module_like.differences v multiples h (submodule.combinations rows (AllByRecursion-weaken _ _ (λ x k. k.0) rows monic) v.degree e.quotients e.divided.homogeneous) refl),
+        subst (IsReducedRow rows) (sym e.row) (record { tail = rest; terms = refl; free = e.divided.reduced }),
+        ap (λ (x : Vector). lead_place x.terms) e.row,
       )
 
-  reduce_each : (vs : List Vector) → AllByRecursion (IsMonicIn N) vs
-      → (ws : List Vector) × AllByRecursion N ws × AllByRecursion (IsReducedRow rows) ws × HaveSameLeads vs ws
-  reduce_each [] h = ([], tt, tt, tt)
-  reduce_each (v ∷ vs) h =
-      let first = reduced_row v h.0.0 h.0.1 in
-      let others = reduce_each vs h.1 in
-      (first.0 ∷ others.0, (first.1, others.1), (first.2, others.2), (first.3, others.3))
+  rows_with_rests : (vs ws : List Vector) → AllByRecursion (IsMonicIn N) vs → HaveReducedTails ring target rows vs ws
+      → AllByRecursion N ws × AllByRecursion (IsReducedRow rows) ws × HaveSameLeads vs ws
+  rows_with_rests [] [] h e = (tt, tt, tt)
+  rows_with_rests [] (w ∷ ws) h e = absurd e
+  rows_with_rests (v ∷ vs) [] h e = absurd e
+  rows_with_rests (v ∷ vs) (w ∷ ws) h e =
+      let first = row_with_rest v w h.0.0 h.0.1 e.0 in
+      let others = rows_with_rests vs ws h.1 e.1 in
+      ((first.0, others.0), (first.1, others.1), (first.2, others.2))
 
-  pub reduced_rows : IsAntichain rows → ReducedRows N rows
-  reduced_rows far =
-      let found = reduce_each rows monic in
-      let ws : List Vector = found.0 in
-      let old : AreMonic rows = AllByRecursion-weaken _ _ (λ v h. h.1) rows monic in
-      let new : AreMonic ws = AllByRecursion-weaken _ _ (λ w h. IsMonic-IsReducedRow rows w h) ws found.2 in
-      let divides : (k : Place) → is_divided ws k ≡ is_divided rows k =
-      λ k. is_divided-same rows ws k old new found.3 in
-      record {
-        reduced = ws;
-        inside = found.1;
-        monic = new;
-        divides = divides;
-        apart =
-            IsApart-reduced rows ws found.2
-            (AllByRecursion-from_items (DividesNoMore rows) ws (λ w item k none. AllByRecursion-item (λ (x : Vector). lead_divides x.terms k ≡ false) ws w (is_divided-none ws k (divides k ∙ none)) item))
-            (IsAntichain-same rows ws old new found.3 far);
-      }
+  -- are in the module, monic and apart, and divide the same
+  module _ (ws : List Vector) (tails : HaveReducedTails ring target rows rows ws) where
+    found : AllByRecursion N ws × AllByRecursion (IsReducedRow rows) ws × HaveSameLeads rows ws
+    found = rows_with_rests rows ws monic tails
+
+    old : AreMonic rows
+    old = AllByRecursion-weaken _ _ (λ v h. h.1) rows monic
+
+    pub reduced_rows-inside : AllByRecursion N ws
+    reduced_rows-inside = found.0
+
+    pub reduced_rows-monic : AllByRecursion (λ (v : Vector). IsMonic v.terms) ws
+    reduced_rows-monic = AllByRecursion-weaken _ _ (λ w h. IsMonic-IsReducedRow rows w h) ws found.1
+
+    pub reduced_rows-divide : (k : Place) → is_divided ws k ≡ is_divided rows k
+    reduced_rows-divide k = is_divided-same rows ws k old reduced_rows-monic found.2
+
+    pub reduced_rows-apart : IsAntichain rows → IsApart ws
+    reduced_rows-apart far =
+        IsApart-reduced rows ws found.1
+        (AllByRecursion-from_items (DividesNoMore rows) ws (λ w item k none. AllByRecursion-item (λ (x : Vector). lead_divides x.terms k ≡ false) ws w (is_divided-none ws k (reduced_rows-divide k ∙ none)) item))
+        (IsAntichain-same rows ws old reduced_rows-monic found.2 far)
+
+-- over a field there are such rows
+module _ (ring : Ring) (prime : IsOverField ring) (target : List ℤ) (rows : List Vector)
+    (monic : AllByRecursion (IsMonicVector ring target) rows) where
+  reduced_tail : (v : Vector) → IsMonicVector ring target v → (w : Vector) × HasReducedTail ring target rows v w
+  reduced_tail v h =
+      let lead : Term Place = record { at = lead_place v.terms; coefficient = 1 } in
+      let us = tail_of v.terms in
+      let vector : IsVector ring target (record { degree = v.degree; terms = lead ∷ us }) = subst (λ ts. IsVector ring target (record { degree = v.degree; terms = ts })) (IsMonic-shape v.terms h.monic) h.vector in
+      let e = divide ring prime target rows monic (record { degree = v.degree; terms = us }) (IsVector-tail ring target v.degree lead us vector) in
+      (record { degree = v.degree; terms = lead ∷ e.rest }, record { rest = e.rest; quotients = e.quotients; divided = e.divided; row = refl })
+
+  reduce_each : (vs : List Vector) → AllByRecursion (IsMonicVector ring target) vs
+      → (ws : List Vector) × HaveReducedTails ring target rows vs ws
+  reduce_each [] h = ([], tt)
+  reduce_each (v ∷ vs) h =
+      let first = reduced_tail v h.0 in let others = reduce_each vs h.1 in (first.0 ∷ others.0, (first.1, others.1))
+
+  pub reduced_tails : (ws : List Vector) × HaveReducedTails ring target rows rows ws
+  reduced_tails = reduce_each rows monic
