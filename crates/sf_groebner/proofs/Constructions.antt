@@ -10,6 +10,8 @@ pub mod SortedRows
 pub mod ReducedExistence
 pub mod MatrixBases
 pub mod LargeMatrices
+pub mod LargeGrowth
+pub mod FinishedBases
 pub mod Rests
 pub mod LiftExistence
 pub mod Reductions

@@ -5,3 +5,6 @@ pub mod PendingDegrees
 pub mod HandledPairs
 pub mod HomogeneousPairs
 pub mod NeededLeads
+pub mod GrowingBases
+pub mod MonicRests
+pub mod GrowthSteps

@@ -5,6 +5,7 @@ pub mod SameModules
 pub mod SumsAndMultiples
 pub mod Submodules
 pub mod Generators
+pub mod CombinationSums
 pub mod SpanCombinations
 pub mod SyzygyCombinations
 pub mod AddedParts

@@ -55,16 +55,17 @@ module _ (ring : Ring) (positive : IsRing ring) (rows : List Vector) where
 
   -- pairs that reduce to zero need not wait
   pub IsPending-fewer : (pending left : List (ℕ × ℕ))
-      → ((i j : ℕ) → IsWaiting i j pending → IsWaiting i j left ⊎ ReducesToZero ring rows i j)
+      → ((i j : ℕ) → IsPair rows i j → IsWaiting i j pending → IsWaiting i j left ⊎ ReducesToZero ring rows i j)
       → IsPending ring rows pending → IsPending ring rows left
-  IsPending-fewer pending left f h i j pair = ⊎_elim (f i j) (λ (r : ReducesToZero ring rows i j). inr r) (h i j pair)
+  IsPending-fewer pending left f h i j pair =
+      ⊎_elim (f i j pair) (λ (r : ReducesToZero ring rows i j). inr r) (h i j pair)
 
   -- the last pair of the list reduces to zero
   pub IsPending-pop : (left : List (ℕ × ℕ)) (i j : ℕ) → IsPending ring rows (left ++ (i, j) ∷ [])
       → ReducesToZero ring rows i j → IsPending ring rows left
   IsPending-pop left i j h r =
       IsPending-fewer (left ++ (i, j) ∷ []) left
-      (λ k l item.
+      (λ k l pair item.
       ⊎_elim (λ (first : IsWaiting k l left). inl first)
       (λ (second : IsWaiting k l ((i, j) ∷ [])). inr (of_pair k l second))
       (IsItem-append (k, l) left ((i, j) ∷ []) item))

@@ -70,7 +70,7 @@ IsCanonical-pair ring n us vs within h k =
     }
 
 module _ (target source : List ℤ) (d : ℤ) where
-  first_degrees : (weights : Weights) (us : List (Term Place)) → IsHomogeneous weights target d us
+  pub first_degrees : (weights : Weights) (us : List (Term Place)) → IsHomogeneous weights target d us
       → IsHomogeneous weights (target ++ source) d us
   first_degrees weights us h =
       AllByRecursion-weaken (IsTermOfDegree weights target d) (IsTermOfDegree weights (target ++ source) d)
