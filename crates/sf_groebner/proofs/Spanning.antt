@@ -10,4 +10,5 @@ pub mod SpanCombinations
 pub mod SyzygyCombinations
 pub mod AddedParts
 pub mod GraphGenerators
+pub mod GraphMatrices
 pub mod SpanGroups

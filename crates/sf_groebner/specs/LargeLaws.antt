@@ -7,14 +7,10 @@ use Rattle.sf_algebra.specs.Monomials.{monomial_degree}
 use Rattle.sf_algebra.specs.Rings.{IsRing, IsOverField}
 use Rattle.sf_algebra.specs.Terms.{Term}
 use Rattle.sf_algebra.specs.Vectors.{Place, Vector}
-use Rattle.sf_groebner.specs.NeededLeads.{AreDistinct, IsCompleteBelow, IsNeeded}
+use Rattle.sf_groebner.specs.NeededLeads.{AreDistinct, IsCompleteBelow, IsNeededForGraph}
 use Rattle.sf_groebner.specs.ReducedBases.{IsGraphBasis, is_divided}
 use Rattle.sf_groebner.specs.Small.{IsLarge}
 use Rattle.sf_groebner.specs.Spans.{IsGraphVector}
-
--- each reduced basis of the graph of m has an element with its lead at k
-abbrev pub IsNeededForGraph : Matrix → Place → Type 0
-IsNeededForGraph m k = IsNeeded m.ring.weights (IsGraphVector m) k
 
 -- where rows are complete below degree d, a lead of degree d that none of theirs divides is needed
 abbrev pub NeedsNewLeads : Type 0

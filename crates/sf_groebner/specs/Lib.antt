@@ -17,6 +17,7 @@ pub mod BasisLaws
 pub mod Cuts
 pub mod BasisParts
 pub mod CutLaws
+pub mod GraphRows
 pub mod GraphLaws
 pub mod Reductions
 pub mod ReductionLaws

@@ -9,7 +9,7 @@ use Rattle.sf_algebra.specs.Terms.{Term}
 use Rattle.sf_algebra.specs.Vectors.{Place, Vector}
 use Rattle.sf_algebra.proofs.Basics.Lists.{AllByRecursion-append}
 use Rattle.sf_groebner.specs.Criterion.{lead_place}
-use Rattle.sf_groebner.specs.LargeLaws.{IsNeededForGraph}
+use Rattle.sf_groebner.specs.NeededLeads.{IsNeededForGraph}
 use Rattle.sf_groebner.specs.ReducedBases.{is_divided}
 use Rattle.sf_groebner.specs.Small.{IsLarge}
 use Rattle.sf_groebner.specs.Spans.{IsGraphVector, graph_degrees}

@@ -13,9 +13,8 @@ use Rattle.sf_algebra.proofs.Basics.Lists.{AllByRecursion-weaken}
 use Rattle.sf_algebra.proofs.GradedMatrices.Stacks.{AllByRecursion-map}
 use Rattle.sf_algebra.proofs.Monomials.Weights.{field_ring}
 use Rattle.sf_groebner.specs.Criterion.{lead_place}
-use Rattle.sf_groebner.specs.LargeLaws.{IsNeededForGraph}
 use Rattle.sf_groebner.specs.Leads.{place_divides}
-use Rattle.sf_groebner.specs.NeededLeads.{AreDistinct, HasElementAt, HasLeadAt, IsNeeded}
+use Rattle.sf_groebner.specs.NeededLeads.{AreDistinct, HasElementAt, HasLeadAt, IsNeeded, IsNeededForGraph}
 use Rattle.sf_groebner.specs.ReducedBases.{AreApart, IsApart, IsGraphBasis, IsMonic, IsReducedBasis, is_divided}
 use Rattle.sf_groebner.specs.Small.{HasLeadUpTo, IsLarge}
 use Rattle.sf_groebner.specs.Spans.{IsGraphVector, graph_degrees}

@@ -73,7 +73,7 @@ AreApart-row_cmp weights v w h k apart e =
     clash b divided free = cc
 
 -- a row at its place among sorted rows
-pub insert_row : (weights : Weights) → Vector → List Vector → List Vector
+unfoldable pub insert_row : (weights : Weights) → Vector → List Vector → List Vector
 insert_row weights v [] = v ∷ []
 insert_row weights v (w ∷ ws) =
     match_ordering (row_cmp weights v w) (v ∷ w ∷ ws) (v ∷ w ∷ ws) (w ∷ insert_row weights v ws)
@@ -124,7 +124,7 @@ IsSorted-insert_row weights v (w ∷ ws) h k =
     (AllByRecursion-insert_row weights (λ x. row_cmp weights w x ≡ Less) v ws less k.0, IsSorted-insert_row weights v ws h.1 k.1))
 
 -- rows one by one at their places
-pub sort_rows : (weights : Weights) → List Vector → List Vector
+unfoldable pub sort_rows : (weights : Weights) → List Vector → List Vector
 sort_rows weights [] = []
 sort_rows weights (v ∷ vs) = insert_row weights v (sort_rows weights vs)
 

@@ -44,14 +44,14 @@ module _ (m : Matrix) (positive : IsRing m.ring) (above : 1 < m.ring.modulus) (m
       (unit_rows 0 (row_degrees m))
       (AllByRecursion-weaken _ _ (λ c h. IsGraphVector-graph_of m positive c (IsVector-row_combination m positive.modulus matrix c h) h) (unit_rows 0 (row_degrees m)) (IsMatrix-identity m.ring above (row_degrees m)))
 
-  degrees-graph_rows : degrees_of graph_rows ≡ row_degrees m
+  pub degrees-graph_rows : degrees_of graph_rows ≡ row_degrees m
   degrees-graph_rows =
       degrees-with_terms graph_terms (unit_rows 0 (row_degrees m)) ∙ degrees-unit_rows 0 (row_degrees m)
 
   length-row_degrees : length (row_degrees m) ≡ length m.rows
   length-row_degrees = length-map m.rows (λ (v : Vector). v.degree)
 
-  row_at-graph_rows : (i : ℕ)
+  pub row_at-graph_rows : (i : ℕ)
       → row_at graph_rows i ≡ row_sum m.ring (row_at m.rows i) (row_at (unit_rows (length m.target) (row_degrees m)) i)
   row_at-graph_rows i =
       row_at-map graph_terms (ap (λ us. us ++ []) (row_combination-nil m.ring positive.modulus m.rows))
