@@ -1,3 +1,6 @@
 pub mod Generating
 pub mod Steps
 pub mod PresentationMatrices
+pub mod EqualModulo
+pub mod RowMaps
+pub mod Composites
