@@ -4,3 +4,4 @@ pub mod PresentationMatrices
 pub mod EqualModulo
 pub mod RowMaps
 pub mod Composites
+pub mod FreeBases

@@ -1,3 +1,5 @@
 pub mod Presented
 pub mod PresentedLaws
 pub mod MapLaws
+pub mod FreeBases
+pub mod FreeBasisLaws
