@@ -5,3 +5,4 @@ pub mod EqualModulo
 pub mod RowMaps
 pub mod Composites
 pub mod FreeBases
+pub mod Coordinates

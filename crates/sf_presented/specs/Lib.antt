@@ -3,3 +3,5 @@ pub mod PresentedLaws
 pub mod MapLaws
 pub mod FreeBases
 pub mod FreeBasisLaws
+pub mod Coordinates
+pub mod CoordinateLaws

@@ -4,12 +4,14 @@
 //! contract of each is a law of the definitions.
 #![tactic(auto)]
 
-mod bases;
-mod maps;
+mod basis;
+mod coordinate;
+mod map;
 mod presented;
 
-pub use bases::unit_vectors_are_a_basis;
-pub use maps::{maps_are_decided_by_rows, maps_compose};
+pub use basis::unit_vectors_are_a_basis;
+pub use coordinate::vectors_have_coordinates;
+pub use map::{maps_are_decided_by_rows, maps_compose};
 pub use presented::{
     kernels_and_images_are_matrices, presentations_present, resolutions_are_exact,
 };

@@ -1,5 +1,5 @@
 use Rattle.sf_presented.proofs.Composites.{IsModuleMap-matrix_product, IsSquare-matrix_product, AreChainMaps-matrix_product}
-use Rattle.sf_presented.proofs.maps.maps_compose.Goals as goal
+use Rattle.sf_presented.proofs.map.maps_compose.Goals as goal
 
 pub returns : goal.returns
 returns c = record {

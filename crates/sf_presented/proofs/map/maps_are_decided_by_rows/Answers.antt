@@ -1,5 +1,5 @@
 use Rattle.sf_presented.proofs.RowMaps.{sends-rows, sends-span}
-use Rattle.sf_presented.proofs.maps.maps_are_decided_by_rows.Goals as goal
+use Rattle.sf_presented.proofs.map.maps_are_decided_by_rows.Goals as goal
 
 pub returns : goal.returns
 returns c = record {
