@@ -6,3 +6,6 @@ pub mod RowMaps
 pub mod Composites
 pub mod FreeBases
 pub mod Coordinates
+pub mod EqualRows
+pub mod Descriptions
+pub mod Inverses

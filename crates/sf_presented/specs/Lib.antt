@@ -5,3 +5,5 @@ pub mod FreeBases
 pub mod FreeBasisLaws
 pub mod Coordinates
 pub mod CoordinateLaws
+pub mod Inverses
+pub mod InverseLaws

@@ -6,11 +6,13 @@
 
 mod basis;
 mod coordinate;
+mod inverse;
 mod map;
 mod presented;
 
 pub use basis::unit_vectors_are_a_basis;
 pub use coordinate::vectors_have_coordinates;
+pub use inverse::{descriptions_are_inverse, identities_are_seen_at_units, inverses_are_unique};
 pub use map::{maps_are_decided_by_rows, maps_compose};
 pub use presented::{
     kernels_and_images_are_matrices, presentations_present, resolutions_are_exact,
