@@ -9,3 +9,4 @@ pub mod Coordinates
 pub mod EqualRows
 pub mod Descriptions
 pub mod Inverses
+pub mod KeptFacts

@@ -7,3 +7,5 @@ pub mod Coordinates
 pub mod CoordinateLaws
 pub mod Inverses
 pub mod InverseLaws
+pub mod KeptFacts
+pub mod KeptLaws
