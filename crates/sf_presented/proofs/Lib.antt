@@ -10,3 +10,5 @@ pub mod EqualRows
 pub mod Descriptions
 pub mod Inverses
 pub mod KeptFacts
+pub mod ResidueFieldMaps
+pub mod ResidueCoordinates

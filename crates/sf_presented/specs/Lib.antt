@@ -9,3 +9,4 @@ pub mod Inverses
 pub mod InverseLaws
 pub mod KeptFacts
 pub mod KeptLaws
+pub mod ResidueField

@@ -6,6 +6,7 @@
 
 mod basis;
 mod coordinate;
+mod example;
 mod inverse;
 mod kept;
 mod map;
@@ -13,6 +14,7 @@ mod presented;
 
 pub use basis::unit_vectors_are_a_basis;
 pub use coordinate::vectors_have_coordinates;
+pub use example::residue_field;
 pub use inverse::{descriptions_are_inverse, identities_are_seen_at_units, inverses_are_unique};
 pub use kept::{lifts_have_one_proof, mere_facts_are_unique, mere_facts_hold};
 pub use map::{maps_are_decided_by_rows, maps_compose};
