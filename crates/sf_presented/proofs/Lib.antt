@@ -6,6 +6,7 @@ pub mod RowMaps
 pub mod Composites
 pub mod FreeBases
 pub mod Coordinates
+pub mod PresentedCoordinates
 pub mod EqualRows
 pub mod Descriptions
 pub mod Inverses

@@ -1,4 +1,4 @@
-ghost use Rattle.sf_presented.specs.CoordinateLaws.{HasCoordinates, HasOneListOfCoordinates, HasCoordinatesOfLifts};
+ghost use Rattle.sf_presented.specs.CoordinateLaws.{HasCoordinates, HasOneListOfCoordinates, HasCoordinatesOfLifts, HasCoordinatesInKernel, HasCoordinatesInImage, HasCoordinatesInCokernel, HasCoordinatesInHomology};
 
 /// Modulo a prime the vectors of the span of generators and base, and no others, have coordinates; each has one list of them, the first
 /// block of its lift.
@@ -6,4 +6,12 @@ pub fn vectors_have_coordinates()
     ensures exist { HasCoordinates }
     ensures unique { HasOneListOfCoordinates }
     ensures lifts { HasCoordinatesOfLifts }
+{}
+
+/// Modulo a prime the vectors of which kernels, images, cokernels and homology are made have coordinates in their generators.
+pub fn presentations_have_coordinates()
+    ensures kernel { HasCoordinatesInKernel }
+    ensures image { HasCoordinatesInImage }
+    ensures cokernel { HasCoordinatesInCokernel }
+    ensures homology { HasCoordinatesInHomology }
 {}
