@@ -5,7 +5,7 @@ use Rattle.std.specs.List.{AllByRecursion}
 use Rattle.std.proofs.Props.{props}
 use mathlib.Core.Logic.{∥∥₁_elim, ∥∥₁_map}
 use Rattle.sf_algebra.specs.Matrices.{Matrix, row_degrees, IsMatrix}
-use Rattle.sf_algebra.specs.MatrixOperations.{stacked}
+use Rattle.sf_algebra.specs.MatrixOperations.{matrix_product, stacked}
 use Rattle.sf_algebra.specs.Rings.{Ring, IsRing, IsOverField}
 use Rattle.sf_algebra.specs.VectorOperations.{vector_difference}
 use Rattle.sf_algebra.specs.Vectors.{Vector, IsVector, IsCanonicalRow}
@@ -13,12 +13,13 @@ use Rattle.sf_algebra.proofs.GradedMatrices.Stacks.{IsMatrix-stacked}
 use Rattle.sf_algebra.proofs.Monomials.Weights.{field_ring}
 use Rattle.sf_algebra.proofs.Vectors.VectorProps.{IsVector-prop}
 use Rattle.sf_groebner.specs.Homology.{ComplexPlace, IsComplexPlace, IsHomology, IsKernel, IsImage, IsCokernel}
+use Rattle.sf_groebner.specs.Maps.{AreEqualModulo}
 use Rattle.sf_groebner.specs.MinimalGenerators.{AreMinimal, matrix_of}
 use Rattle.sf_groebner.specs.Presentations.{IsPresentation, IsZero, IsRelation, IsModuleMap, IsReducedByRelations, AreRelationsModulo}
 use Rattle.sf_groebner.specs.ReducedBases.{IsReducedBy, IsSpanBasis}
 use Rattle.sf_groebner.specs.Resolutions.{IsFirstStep, IsNextStep, IsResolution}
 use Rattle.sf_groebner.specs.Spans.{combined, InSpan, IsSyzygy}
-use Rattle.sf_groebner.proofs.Basics.Propositions.{IsReducedBy-prop}
+use Rattle.sf_groebner.proofs.Basics.Propositions.{IsMatrix-prop, IsReducedBy-prop}
 use Rattle.sf_groebner.proofs.Constructions.MatrixBases.{span_basis, syzygy_basis}
 use Rattle.sf_groebner.proofs.Constructions.MinimalExistence.{minimal_modulo_span, minimal_modulo_zero}
 use Rattle.sf_groebner.proofs.Constructions.PresentationExistence.{relation_basis, homology_exists, kernel_exists, image_exists, cokernel_exists}
@@ -31,6 +32,7 @@ use Rattle.sf_groebner.proofs.Uniqueness.MinimalGenerators.{HasOneBasis, unique_
 use Rattle.sf_groebner.proofs.Uniqueness.Presentations.{unique_presentation, unique_first_step, unique_next_step, unique_resolution}
 use Rattle.sf_groebner.proofs.Uniqueness.UniqueBases.{unique_reduced}
 use Rattle.sf_presented.specs.Coordinates.{AreCoordinates}
+use Rattle.sf_presented.specs.Inverses.{AreInverseModulo}
 use Rattle.sf_presented.specs.KeptFacts.{Merely}
 use Rattle.sf_presented.proofs.Coordinates.{IsMatrix-relations_modulo, unique_coordinates}
 
@@ -40,6 +42,12 @@ same_vector-prop v w = hlevel props
 
 same_degree-prop : (d e : ℤ) → IsProp (d ≡ e)
 same_degree-prop d e = hlevel props
+
+same_degrees-prop : (ds es : List ℤ) → IsProp (ds ≡ es)
+same_degrees-prop ds es = hlevel props
+
+same_ring-prop : (q r : Ring) → IsProp (q ≡ r)
+same_ring-prop q r = hlevel props
 
 same_vectors-prop : (vs ws : List Vector) → IsProp (vs ≡ ws)
 same_vectors-prop vs ws = hlevel props
@@ -278,3 +286,38 @@ kept-minimal_relations m base prime rings targets matrix other generators h =
     merely-holds (AreMinimal m.ring (IsRelation m (InSpan base)) IsZero) g.generators generators (same_vectors-prop g.generators generators)
     (unique_minimal m.ring (row_degrees m) (IsRelation m (InSpan base)) IsZero (one_relation_basis m base (field_ring prime) rings other) g.generators generators)
     g.minimal h
+
+pub kept-module_map : (source target map : Matrix) → IsOverField target.ring → IsMatrix target
+    → Merely (IsModuleMap source target map) → IsModuleMap source target map
+kept-module_map source target map prime matrix h = record {
+  matrix = ∥∥₁_elim h (IsMatrix-prop map) (λ k. k.matrix);
+  source_ring = ∥∥₁_elim h (same_ring-prop map.ring source.ring) (λ k. k.source_ring);
+  target_ring = ∥∥₁_elim h (same_ring-prop map.ring target.ring) (λ k. k.target_ring);
+  source_degrees = ∥∥₁_elim h (same_degrees-prop (row_degrees map) source.target) (λ k. k.source_degrees);
+  target_degrees = ∥∥₁_elim h (same_degrees-prop map.target target.target) (λ k. k.target_degrees);
+  sends = λ v inside. kept-InSpan target prime matrix (combined map v) (∥∥₁_map h (λ k. k.sends v inside));
+}
+
+-- equality modulo a span
+kept-equal : (m : Matrix) → IsOverField m.ring → IsMatrix m → (u v : Vector)
+    → Merely (AreEqualModulo m.ring (InSpan m) u v) → AreEqualModulo m.ring (InSpan m) u v
+kept-equal m prime matrix u v h = record {
+  degrees = ∥∥₁_elim h (same_degree-prop u.degree v.degree) (λ k. k.degrees);
+  difference = kept-InSpan m prime matrix (vector_difference m.ring u v) (∥∥₁_map h (λ k. k.difference));
+}
+
+pub kept-inverse : (first second to from : Matrix) → IsOverField first.ring → IsMatrix first → IsMatrix second
+    → Merely (AreInverseModulo first second to from) → AreInverseModulo first second to from
+kept-inverse first second to from prime matrix other h =
+    let rings : first.ring ≡ second.ring =
+    ∥∥₁_elim h (same_ring-prop first.ring second.ring) (λ k. sym k.to_map.source_ring ∙ k.to_map.target_ring) in
+    let other_prime : IsOverField second.ring = subst IsOverField rings prime in
+    record {
+      to_map = kept-module_map first second to other_prime other (∥∥₁_map h (λ k. k.to_map));
+      from_map = kept-module_map second first from prime matrix (∥∥₁_map h (λ k. k.from_map));
+      back = λ v vector.
+          kept-equal first prime matrix v (combined (matrix_product to from) v) (∥∥₁_map h (λ k. k.back v vector));
+      forth = λ v vector.
+          kept-equal second other_prime other v (combined (matrix_product from to) v)
+          (∥∥₁_map h (λ k. k.forth v vector));
+    }

@@ -1,21 +1,60 @@
--- Vectors of a presented module have coordinates: its relations are those of its generators modulo the base, and its
--- generators generate.
-use Rattle.std.proofs.Common.{◌≡◌, refl, sym, ◌∙◌, subst, List, ℤ}
-use Rattle.sf_algebra.specs.Matrices.{Matrix, IsMatrix}
+-- Lists of vectors have one list of coordinates. Vectors of a presented module have coordinates: its relations are those
+-- of its generators modulo the base, and its generators generate.
+use Rattle.std.proofs.Common.{◌≡◌, refl, sym, ◌∙◌, subst, List, [], ◌∷◌, ℤ}
+use Rattle.std.specs.List.{AllByRecursion}
+use Rattle.sf_algebra.specs.Matrices.{Matrix, row_degrees, IsMatrix}
 use Rattle.sf_algebra.specs.MatrixOperations.{stacked}
 use Rattle.sf_algebra.specs.Rings.{Ring, IsOverField}
-use Rattle.sf_algebra.specs.Vectors.{Vector}
+use Rattle.sf_algebra.specs.Vectors.{Vector, IsCanonicalRow}
 use Rattle.sf_algebra.proofs.GradedMatrices.Stacks.{IsMatrix-stacked}
 use Rattle.sf_algebra.proofs.Monomials.Weights.{field_ring}
 use Rattle.sf_groebner.specs.Homology.{ComplexPlace, IsComplexPlace, IsAny, IsCycle, IsHomology, IsKernel, IsImage, IsCokernel}
-use Rattle.sf_groebner.specs.MinimalGenerators.{AreMinimal}
+use Rattle.sf_groebner.specs.MinimalGenerators.{AreMinimal, matrix_of}
 use Rattle.sf_groebner.specs.Presentations.{AreRelationsModulo, IsModuleMap, IsPresentation, IsRelation, IsZero}
 use Rattle.sf_groebner.specs.Spans.{InSpan}
 use Rattle.sf_groebner.proofs.PartsOfBases.StackedSpans.{InSpan-stacked_sum}
-use Rattle.sf_presented.specs.Coordinates.{AreCoordinates}
+use Rattle.sf_presented.specs.Coordinates.{AreCoordinates, HaveCoordinates, IsDescription}
 use Rattle.sf_presented.specs.Presented.{IsPresentedBy}
-use Rattle.sf_presented.proofs.Coordinates.{coordinates_exist}
+use Rattle.sf_presented.proofs.Coordinates.{coordinates_exist, unique_coordinates}
 use Rattle.sf_presented.proofs.Generating.{presented-kernel, presented-image, presented-cokernel, presented-homology}
+
+-- vectors one after another
+module _ (generators base relations : Matrix) (prime : IsOverField generators.ring)
+    (given : AreRelationsModulo generators base relations) where
+  coordinates_rows : (vs : List Vector) → AllByRecursion (InSpan (stacked generators base)) vs
+      → (cs : List Vector) × HaveCoordinates generators base relations vs cs
+  coordinates_rows [] h = ([], tt)
+  coordinates_rows (v ∷ vs) h =
+      let c = coordinates_exist generators base relations prime given v h.0 in
+      let rest = coordinates_rows vs h.1 in
+      (c.0 ∷ rest.0, (c.1, rest.1))
+
+  pub description_exists : (described : Matrix) → AllByRecursion (InSpan (stacked generators base)) described.rows
+      → (m : Matrix) × IsDescription generators base relations described m
+  description_exists described h =
+      let rows = coordinates_rows described.rows h in
+      (matrix_of generators.ring (row_degrees generators) rows.0, record { ring = refl; target = refl; rows = rows.1 })
+
+  same_coordinates_rows : (vs cs ds : List Vector)
+      → AllByRecursion (λ (v : Vector). IsCanonicalRow generators.ring v.terms) vs
+      → HaveCoordinates generators base relations vs cs → HaveCoordinates generators base relations vs ds → cs ≡ ds
+  same_coordinates_rows [] [] [] canonical h k = refl
+  same_coordinates_rows [] [] (d ∷ ds) canonical h k = absurd k
+  same_coordinates_rows [] (c ∷ cs) ds canonical h k = absurd h
+  same_coordinates_rows (v ∷ vs) [] ds canonical h k = absurd h
+  same_coordinates_rows (v ∷ vs) (c ∷ cs) [] canonical h k = absurd k
+  same_coordinates_rows (v ∷ vs) (c ∷ cs) (d ∷ ds) canonical h k =
+      let first : c ≡ d = unique_coordinates generators base relations prime given v canonical.0 c d h.0 k.0 in
+      let rest = same_coordinates_rows vs cs ds canonical.1 h.1 k.1 in
+      λ i. first i ∷ rest i
+
+  pub unique_description : (described : Matrix)
+      → AllByRecursion (λ (v : Vector). IsCanonicalRow generators.ring v.terms) described.rows → (m n : Matrix)
+      → IsDescription generators base relations described m → IsDescription generators base relations described n
+      → m ≡ n
+  unique_description described canonical m n h k =
+      let rows = same_coordinates_rows described.rows m.rows n.rows canonical h.rows k.rows in
+      λ i. record { ring = (h.ring ∙ sym k.ring) i; target = (h.target ∙ sym k.target) i; rows = rows i }
 
 module _ (ring : Ring) (prime : IsOverField ring) (target : List ℤ) (N : Vector → Type 0) (base : Matrix)
     (base_ring : base.ring ≡ ring) (matrix : IsMatrix base) (g r : Matrix)

@@ -1,5 +1,6 @@
 -- What holds of coordinates. (Textbook; the choice of the coordinates is this project's own.)
 use Rattle.std.specs.Prelude.{◌≡◌, ◌↔◌, length}
+use Rattle.std.specs.List.{AllByRecursion}
 use Rattle.sf_algebra.specs.Matrices.{Matrix, IsMatrix}
 use Rattle.sf_algebra.specs.MatrixOperations.{stacked, vector_part}
 use Rattle.sf_algebra.specs.Rings.{IsOverField}
@@ -8,7 +9,7 @@ use Rattle.sf_groebner.specs.Homology.{ComplexPlace, IsComplexPlace, IsAny, IsCy
 use Rattle.sf_groebner.specs.Lifts.{IsLift}
 use Rattle.sf_groebner.specs.Presentations.{AreRelationsModulo, IsModuleMap}
 use Rattle.sf_groebner.specs.Spans.{InSpan}
-use Rattle.sf_presented.specs.Coordinates.{AreCoordinates}
+use Rattle.sf_presented.specs.Coordinates.{AreCoordinates, IsDescription}
 
 -- the vectors with coordinates are those of the span of generators and base
 abbrev pub HasCoordinates : Type 0
@@ -53,3 +54,18 @@ HasCoordinatesInHomology =
     (place : ComplexPlace) → IsOverField place.here.ring → IsComplexPlace place → (g r : Matrix) → IsHomology place g r
     → AreRelationsModulo g (stacked place.arriving place.here) r
     × ((v : Vector) → IsCycle place.out place.beyond v → (c : Vector) × AreCoordinates g (stacked place.arriving place.here) r v c)
+
+-- vectors of the span of generators and base have a description
+abbrev pub HasDescription : Type 0
+HasDescription =
+    (generators base relations described : Matrix) → IsOverField generators.ring → AreRelationsModulo generators base relations
+    → AllByRecursion (InSpan (stacked generators base)) described.rows
+    → (m : Matrix) × IsDescription generators base relations described m
+
+-- canonical vectors have one
+abbrev pub HasOneDescription : Type 0
+HasOneDescription =
+    (generators base relations described : Matrix) → IsOverField generators.ring → AreRelationsModulo generators base relations
+    → AllByRecursion (λ (v : Vector). IsCanonicalRow generators.ring v.terms) described.rows
+    → (m n : Matrix) → IsDescription generators base relations described m
+    → IsDescription generators base relations described n → m ≡ n

@@ -13,6 +13,7 @@ use Rattle.sf_groebner.specs.ReducedBases.{IsSpanBasis}
 use Rattle.sf_groebner.specs.Resolutions.{IsFirstStep, IsNextStep, IsResolution}
 use Rattle.sf_groebner.specs.Spans.{InSpan}
 use Rattle.sf_presented.specs.Coordinates.{AreCoordinates}
+use Rattle.sf_presented.specs.Inverses.{AreInverseModulo}
 use Rattle.sf_presented.specs.KeptFacts.{Merely}
 
 -- that coefficients are a lift has one proof at most
@@ -139,3 +140,12 @@ abbrev pub KeepsCoordinates : Type 0
 KeepsCoordinates =
     (generators base relations : Matrix) → IsOverField generators.ring → AreRelationsModulo generators base relations → (v c : Vector)
     → Merely (AreCoordinates generators base relations v c) → AreCoordinates generators base relations v c
+
+-- and with maps of presented modules, and inverse ones
+abbrev pub KeepsModuleMaps : Type 0
+KeepsModuleMaps =
+    (source target map : Matrix) → IsOverField target.ring → IsMatrix target → Merely (IsModuleMap source target map) → IsModuleMap source target map
+
+abbrev pub KeepsInverses : Type 0
+KeepsInverses =
+    (first second to from : Matrix) → IsOverField first.ring → IsMatrix first → IsMatrix second → Merely (AreInverseModulo first second to from) → AreInverseModulo first second to from

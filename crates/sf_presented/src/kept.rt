@@ -1,4 +1,4 @@
-ghost use Rattle.sf_presented.specs.KeptLaws.{HasOneProofOfLift, HasOneMereSpanBasis, HasOneMereMinimalSpan, HasOneMereMinimalRelations, HasOneMereHomology, HasOneMereKernel, HasOneMereImage, HasOneMereCokernel, HasOneMereFirstStep, HasOneMereNextStep, HasOneMereResolution, HasOneListOfMereCoordinates, KeepsSpanBasis, KeepsMinimalSpan, KeepsMinimalRelations, KeepsVectorsOfSpan, KeepsReducedVectors, KeepsHomology, KeepsKernel, KeepsImage, KeepsCokernel, KeepsFirstStep, KeepsNextStep, KeepsResolution, KeepsCoordinates};
+ghost use Rattle.sf_presented.specs.KeptLaws.{HasOneProofOfLift, HasOneMereSpanBasis, HasOneMereMinimalSpan, HasOneMereMinimalRelations, HasOneMereHomology, HasOneMereKernel, HasOneMereImage, HasOneMereCokernel, HasOneMereFirstStep, HasOneMereNextStep, HasOneMereResolution, HasOneListOfMereCoordinates, KeepsSpanBasis, KeepsMinimalSpan, KeepsMinimalRelations, KeepsVectorsOfSpan, KeepsReducedVectors, KeepsHomology, KeepsKernel, KeepsImage, KeepsCokernel, KeepsFirstStep, KeepsNextStep, KeepsResolution, KeepsCoordinates, KeepsModuleMaps, KeepsInverses};
 
 /// That coefficients are a lift has at most one proof.
 pub fn lifts_have_one_proof()
@@ -35,4 +35,6 @@ pub fn mere_facts_hold()
     ensures inside { KeepsVectorsOfSpan }
     ensures reduced { KeepsReducedVectors }
     ensures coordinates { KeepsCoordinates }
+    ensures maps { KeepsModuleMaps }
+    ensures inverses { KeepsInverses }
 {}

@@ -13,7 +13,9 @@ mod map;
 mod presented;
 
 pub use basis::unit_vectors_are_a_basis;
-pub use coordinate::{presentations_have_coordinates, vectors_have_coordinates};
+pub use coordinate::{
+    presentations_have_coordinates, vectors_have_coordinates, vectors_have_descriptions,
+};
 pub use example::residue_field;
 pub use inverse::{descriptions_are_inverse, identities_are_seen_at_units, inverses_are_unique};
 pub use kept::{lifts_have_one_proof, mere_facts_are_unique, mere_facts_hold};

@@ -1,4 +1,4 @@
-use Rattle.sf_presented.proofs.KeptFacts.{kept-span_basis, kept-minimal_span, kept-minimal_relations, kept-InSpan, kept-reduced, kept-homology, kept-kernel, kept-image, kept-cokernel, kept-first_step, kept-next_step, kept-resolution, kept-coordinates}
+use Rattle.sf_presented.proofs.KeptFacts.{kept-span_basis, kept-minimal_span, kept-minimal_relations, kept-InSpan, kept-reduced, kept-homology, kept-kernel, kept-image, kept-cokernel, kept-first_step, kept-next_step, kept-resolution, kept-coordinates, kept-module_map, kept-inverse}
 use Rattle.sf_presented.proofs.kept.mere_facts_hold.Goals as goal
 
 pub returns : goal.returns
@@ -16,4 +16,6 @@ returns c = record {
   inside = kept-InSpan;
   reduced = kept-reduced;
   coordinates = kept-coordinates;
+  maps = kept-module_map;
+  inverses = kept-inverse;
 }
