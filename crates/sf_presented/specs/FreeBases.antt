@@ -8,7 +8,8 @@ use Rattle.sf_algebra.specs.Vectors.{Vector}
 -- a vector, put in front of the first whose degree isn't smaller
 abbrev pub insert_by_degree : Vector → List Vector → List Vector
 insert_by_degree v [] = v ∷ []
-insert_by_degree v (w ∷ ws) = match_ordering (int_cmp v.degree w.degree) (v ∷ w ∷ ws) (v ∷ w ∷ ws) (w ∷ insert_by_degree v ws)
+insert_by_degree v (w ∷ ws) =
+    match_ordering (int_cmp v.degree w.degree) (v ∷ w ∷ ws) (v ∷ w ∷ ws) (w ∷ insert_by_degree v ws)
 
 -- vectors by ascending degree; those of one degree stay in their order
 abbrev pub by_degree : List Vector → List Vector

@@ -9,9 +9,12 @@ use Rattle.sf_presented.specs.FreeBases.{unit_basis}
 
 -- that of the span of the identity is the unit vectors
 abbrev pub HasUnitBasis : Type 0
-HasUnitBasis = (ring : Ring) → IsRing ring → 1 < ring.modulus → (degrees : List ℤ) → IsSpanBasis (identity ring degrees) (unit_basis degrees)
+HasUnitBasis =
+    (ring : Ring) → IsRing ring → 1 < ring.modulus → (degrees : List ℤ)
+    → IsSpanBasis (identity ring degrees) (unit_basis degrees)
 
 -- and so is that of all vectors
 abbrev pub HasUnitBasisOfAll : Type 0
 HasUnitBasisOfAll =
-    (ring : Ring) → IsRing ring → 1 < ring.modulus → (degrees : List ℤ) → IsReducedBasis ring.weights (IsAny ring degrees) (unit_basis degrees)
+    (ring : Ring) → IsRing ring → 1 < ring.modulus → (degrees : List ℤ)
+    → IsReducedBasis ring.weights (IsAny ring degrees) (unit_basis degrees)

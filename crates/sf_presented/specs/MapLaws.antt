@@ -14,13 +14,16 @@ use Rattle.sf_groebner.specs.Spans.{combined, InSpan}
 -- a matrix sends the span of relations into a span exactly where it sends each row there
 abbrev pub SendsSpanByRows : Type 0
 SendsSpanByRows =
-    (source target map : Matrix) → IsRing map.ring → 1 < map.ring.modulus → map.ring ≡ source.ring → map.ring ≡ target.ring → IsMatrix source → IsMatrix target
-    → ((v : Vector) → InSpan source v → InSpan target (combined map v)) ↔ AllByRecursion (λ v. InSpan target (combined map v)) source.rows
+    (source target map : Matrix) → IsRing map.ring → 1 < map.ring.modulus → map.ring ≡ source.ring
+    → map.ring ≡ target.ring → IsMatrix source → IsMatrix target
+    → ((v : Vector) → InSpan source v → InSpan target (combined map v))
+    ↔ AllByRecursion (λ v. InSpan target (combined map v)) source.rows
 
 -- the product of two maps of presented modules is one
 abbrev pub HasComposedModuleMaps : Type 0
 HasComposedModuleMaps =
-    (a b c first second : Matrix) → IsRing first.ring → IsModuleMap a b first → IsModuleMap b c second → IsModuleMap a c (matrix_product first second)
+    (a b c first second : Matrix) → IsRing first.ring → IsModuleMap a b first → IsModuleMap b c second
+    → IsModuleMap a c (matrix_product first second)
 
 -- of two squares, one below the other, the products on both sides are a square
 abbrev pub HasComposedSquares : Type 0
@@ -33,5 +36,6 @@ HasComposedSquares =
 -- the products of maps of complexes are maps of complexes
 abbrev pub HasComposedChainMaps : Type 0
 HasComposedChainMaps =
-    (a b c : ComplexPlace) (first second third other_first other_second other_third : Matrix) → AreChainMaps a b first second third → AreChainMaps b c other_first other_second other_third
+    (a b c : ComplexPlace) (first second third other_first other_second other_third : Matrix)
+    → AreChainMaps a b first second third → AreChainMaps b c other_first other_second other_third
     → AreChainMaps a c (matrix_product first other_first) (matrix_product second other_second) (matrix_product third other_third)

@@ -14,19 +14,21 @@ use Rattle.sf_presented.specs.Presented.{IsPresentedBy, AreExactOver}
 -- the cycles of a map, modulo the relations of its source, are presented by its kernel
 abbrev pub PresentsKernel : Type 0
 PresentsKernel =
-    (source target map : Matrix) → IsOverField source.ring → IsMatrix source → IsMatrix target → IsModuleMap source target map → (g r : Matrix) → IsKernel source target map g r
+    (source target map : Matrix) → IsOverField source.ring → IsMatrix source → IsMatrix target
+    → IsModuleMap source target map → (g r : Matrix) → IsKernel source target map g r
     → IsPresentedBy (IsCycle map target) (InSpan source) g r
 
 -- the span of a map and of the relations of its target, modulo these, by its image
 abbrev pub PresentsImage : Type 0
 PresentsImage =
-    (source target map : Matrix) → IsOverField target.ring → IsMatrix target → IsModuleMap source target map → (g r : Matrix) → IsImage target map g r
-    → IsPresentedBy (InSpan (stacked map target)) (InSpan target) g r
+    (source target map : Matrix) → IsOverField target.ring → IsMatrix target → IsModuleMap source target map
+    → (g r : Matrix) → IsImage target map g r → IsPresentedBy (InSpan (stacked map target)) (InSpan target) g r
 
 -- all vectors, modulo the span of both, by its cokernel
 abbrev pub PresentsCokernel : Type 0
 PresentsCokernel =
-    (source target map : Matrix) → IsOverField target.ring → IsMatrix target → IsModuleMap source target map → (g r : Matrix) → IsCokernel target map g r
+    (source target map : Matrix) → IsOverField target.ring → IsMatrix target → IsModuleMap source target map
+    → (g r : Matrix) → IsCokernel target map g r
     → IsPresentedBy (IsAny target.ring target.target) (InSpan (stacked map target)) g r
 
 -- the cycles at a place, modulo what arrives and the relations there, by its homology
@@ -38,30 +40,33 @@ PresentsHomology =
 -- the rows of the first step of a resolution span the relations
 abbrev pub SpansRelations : Type 0
 SpansRelations =
-    (relations step : Matrix) → IsOverField relations.ring → IsMatrix relations → IsFirstStep relations step → (v : Vector) → InSpan step v ↔ InSpan relations v
+    (relations step : Matrix) → IsOverField relations.ring → IsMatrix relations → IsFirstStep relations step
+    → (v : Vector) → InSpan step v ↔ InSpan relations v
 
 -- those of each other step the syzygies of the step before
 abbrev pub SpansSyzygies : Type 0
 SpansSyzygies =
-    (before step : Matrix) → IsOverField before.ring → IsNextStep before step → (c : Vector) → InSpan step c ↔ IsSyzygy before c
+    (before step : Matrix) → IsOverField before.ring → IsNextStep before step → (c : Vector) → InSpan step c
+    ↔ IsSyzygy before c
 
 -- so a resolution is exact
 abbrev pub HasExactResolutions : Type 0
 HasExactResolutions =
-    (relations : Matrix) → IsOverField relations.ring → IsMatrix relations → (steps : List Matrix) → IsResolution relations steps → AreExactOver relations steps
+    (relations : Matrix) → IsOverField relations.ring → IsMatrix relations → (steps : List Matrix)
+    → IsResolution relations steps → AreExactOver relations steps
 
 -- generators and relations of a kernel are matrices, where the coefficients of the map are vectors over the target of
 -- `source`
 abbrev pub HasMatrixKernel : Type 0
 HasMatrixKernel =
-    (source target map : Matrix) → map.ring ≡ source.ring → row_degrees map ≡ source.target
-    → (g r : Matrix) → IsKernel source target map g r → IsMatrix g × IsMatrix r
+    (source target map : Matrix) → map.ring ≡ source.ring → row_degrees map ≡ source.target → (g r : Matrix)
+    → IsKernel source target map g r → IsMatrix g × IsMatrix r
 
 -- those of an image, where the map goes to the target of the relations
 abbrev pub HasMatrixImage : Type 0
 HasMatrixImage =
-    (target map : Matrix) → IsRing target.ring → map.ring ≡ target.ring → map.target ≡ target.target → IsMatrix map → IsMatrix target
-    → (g r : Matrix) → IsImage target map g r → IsMatrix g × IsMatrix r
+    (target map : Matrix) → IsRing target.ring → map.ring ≡ target.ring → map.target ≡ target.target → IsMatrix map
+    → IsMatrix target → (g r : Matrix) → IsImage target map g r → IsMatrix g × IsMatrix r
 
 -- and those of a cokernel
 abbrev pub HasMatrixCokernel : Type 0
