@@ -21,7 +21,9 @@ pub combined-matrix_product : (f g : Matrix) → IsRing f.ring → f.ring ≡ g.
 combined-matrix_product f g positive rings v =
     λ i. record {
       degree = v.degree;
-      terms = (row_combination-matrix_product f.ring positive.modulus f g v.terms refl ∙ ap (λ q. row_combination q g.rows (row_combination f.ring f.rows v.terms)) rings) i;
+      terms =
+          (row_combination-matrix_product f.ring positive.modulus f g v.terms refl
+          ∙ ap (λ q. row_combination q g.rows (row_combination f.ring f.rows v.terms)) rings) i;
     }
 
 module _ (a b c f g : Matrix) (positive : IsRing f.ring) (h : IsModuleMap a b f) (k : IsModuleMap b c g) where
@@ -86,22 +88,27 @@ module _ (upper upper_relations middle middle_relations lower lower_relations le
       let third : Vector = combined lower (combined other_left (combined left c)) in
       let through : IsCoefficients middle (combined left c) =
       subst (λ q. IsVector q (row_degrees middle) (combined left c)) (sym middle_ring)
-      (IsVector-combined ring h.positive left h.left_ring h.left_matrix (row_degrees upper) (row_degrees middle) h.left_source h.left_target c
+      (IsVector-combined ring h.positive left h.left_ring h.left_matrix (row_degrees upper)
+      (row_degrees middle) h.left_source h.left_target c
       (subst (λ q. IsVector q (row_degrees upper) c) upper_ring coefficients)) in
       let one : AreEqualModulo ring (InSpan lower_relations) first second =
       subst (λ q. AreEqualModulo q (InSpan lower_relations) first second) (sym right_rings)
-      (combined-AreEqualModulo other_right k.positive (InSpan middle_relations) (InSpan lower_relations) k.right_map.sends (combined right (combined upper c)) (combined middle (combined left c))
+      (combined-AreEqualModulo other_right k.positive (InSpan middle_relations)
+      (InSpan lower_relations) k.right_map.sends (combined right (combined upper c)) (combined middle (combined left c))
       (IsCanonical-combined other_right.ring k.positive middle (middle_ring ∙ right_rings) (combined left c))
-      (subst (λ q. AreEqualModulo q (InSpan middle_relations) (combined right (combined upper c)) (combined middle (combined left c))) right_rings (h.commutes c coefficients))) in
+      (subst (λ q. AreEqualModulo q (InSpan middle_relations) (combined right (combined upper c))
+      (combined middle (combined left c))) right_rings (h.commutes c coefficients))) in
       let two : AreEqualModulo ring (InSpan lower_relations) second third =
       subst (λ q. AreEqualModulo q (InSpan lower_relations) second third) (sym right_rings)
       (k.commutes (combined left c) through) in
-      subst (λ v. AreEqualModulo ring (InSpan lower_relations) v (combined lower (combined (matrix_product left other_left) c)))
+      subst (λ v. AreEqualModulo ring (InSpan lower_relations) v
+      (combined lower (combined (matrix_product left other_left) c)))
       (sym (combined-matrix_product right other_right h.positive right_rings (combined upper c)))
       (subst (λ v. AreEqualModulo ring (InSpan lower_relations) first (combined lower v))
       (sym (combined-matrix_product left other_left left_positive left_rings c))
       (AreEqualModulo-trans ring h.positive lower_relations.target (InSpan lower_relations)
-      (span_submodule_of ring h.positive lower_relations.target lower_relations (sym k.right_map.target_ring ∙ sym right_rings) refl k.lower_map.relations_matrix)
+      (span_submodule_of ring h.positive lower_relations.target lower_relations
+      (sym k.right_map.target_ring ∙ sym right_rings) refl k.lower_map.relations_matrix)
       first second third
       (IsCanonical-combined ring h.positive other_right (sym right_rings) (combined right (combined upper c)))
       (IsCanonical-combined ring h.positive other_right (sym right_rings) (combined middle (combined left c)))
@@ -113,7 +120,9 @@ module _ (upper upper_relations middle middle_relations lower lower_relations le
     positive = h.positive;
     upper_map = h.upper_map;
     lower_map = k.lower_map;
-    right_map = IsModuleMap-matrix_product upper_relations middle_relations lower_relations right other_right h.positive h.right_map k.right_map;
+    right_map =
+        IsModuleMap-matrix_product upper_relations middle_relations lower_relations right other_right h.positive
+        h.right_map k.right_map;
     left_matrix = IsMatrix-matrix_product left other_left left-composable h.left_matrix k.left_matrix;
     left_ring = h.left_ring;
     left_source = row_degrees-matrix_product left other_left ∙ h.left_source;
@@ -121,10 +130,16 @@ module _ (upper upper_relations middle middle_relations lower lower_relations le
     commutes = commutes-composite;
   }
 
-pub AreChainMaps-matrix_product : (a b c : ComplexPlace) (first second third other_first other_second other_third : Matrix)
+pub AreChainMaps-matrix_product : (a b c : ComplexPlace)
+    (first second third other_first other_second other_third : Matrix)
     → AreChainMaps a b first second third → AreChainMaps b c other_first other_second other_third
-    → AreChainMaps a c (matrix_product first other_first) (matrix_product second other_second) (matrix_product third other_third)
+    → AreChainMaps a c (matrix_product first other_first) (matrix_product second other_second)
+    (matrix_product third other_third)
 AreChainMaps-matrix_product a b c first second third other_first other_second other_third h k = record {
-  before = IsSquare-matrix_product a.arriving a.here b.arriving b.here c.arriving c.here first second other_first other_second h.before k.before;
-  after = IsSquare-matrix_product a.out a.beyond b.out b.beyond c.out c.beyond second third other_second other_third h.after k.after;
+  before =
+      IsSquare-matrix_product a.arriving a.here b.arriving b.here c.arriving c.here first second other_first
+      other_second h.before k.before;
+  after =
+      IsSquare-matrix_product a.out a.beyond b.out b.beyond c.out c.beyond second third other_second other_third
+      h.after k.after;
 }

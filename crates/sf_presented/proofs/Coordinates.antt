@@ -44,7 +44,8 @@ module _ (generators base relations : Matrix) (prime : IsOverField generators.ri
   IsMatrix-relations_modulo =
       subst (λ (m : Matrix). IsMatrix m)
       (λ i. record { ring = sym given.ring i; target = sym given.target i; rows = relations.rows })
-      (minimal-vectors ring (row_degrees generators) (IsRelation generators (InSpan base)) IsZero (row_degrees generators) (λ v k. k.coefficients) relations.rows given.minimal)
+      (minimal-vectors ring (row_degrees generators) (IsRelation generators (InSpan base)) IsZero
+      (row_degrees generators) (λ v k. k.coefficients) relations.rows given.minimal)
 
   canonical-combined : (c : Vector) → IsCanonicalRow ring (combined generators c).terms
   canonical-combined c = IsCanonical-row_combination ring coordinates-positive.modulus generators.rows c.terms
@@ -53,13 +54,17 @@ module _ (generators base relations : Matrix) (prime : IsOverField generators.ri
   equal-from_sum : (v first second : Vector) → InSpan base first → IsCanonicalRow ring second.terms
       → first.degree ≡ v.degree → second.degree ≡ v.degree → row_sum ring first.terms second.terms ≡ v.terms
       → AreEqualModulo ring (InSpan base) v second
-  equal-from_sum v first second inside canonical h k sum = record {
-    degrees = sym k;
-    difference =
-        subst (InSpan base)
-        (λ i. record { degree = h i; terms = (sym (add-negative_front (place_keys ring.weights) ring.modulus coordinates-positive.modulus first.terms second.terms (base_submodule.module_like.vectors first inside).canonical canonical) ∙ ap (λ ts. row_sum ring ts (negative ring.modulus second.terms)) sum) i })
-        inside;
-  }
+  equal-from_sum v first second inside canonical h k sum =
+      let first_canonical : IsCanonicalRow ring first.terms =
+      (base_submodule.module_like.vectors first inside).canonical in
+      let terms : first.terms ≡ row_sum ring v.terms (negative ring.modulus second.terms) =
+      sym (add-negative_front (place_keys ring.weights) ring.modulus coordinates-positive.modulus first.terms
+      second.terms first_canonical canonical)
+      ∙ ap (λ ts. row_sum ring ts (negative ring.modulus second.terms)) sum in
+      record {
+        degrees = sym k;
+        difference = subst (InSpan base) (λ i. record { degree = h i; terms = terms i }) inside;
+      }
 
   -- coefficients that give what is equal differ by a relation
   pub relation-from_equal : (c d : Vector) → IsCoefficients generators c → IsCoefficients generators d
@@ -69,7 +74,9 @@ module _ (generators base relations : Matrix) (prime : IsOverField generators.ri
       subst (λ q. InSpan relations (vector_difference q c d)) (sym given.ring)
       (InSpan-relations generators base relations prime given (vector_difference ring c d) (record {
         coefficients = IsVector-difference ring coordinates-positive (row_degrees generators) c d h k same.degrees;
-        inside = subst (InSpan base) (sym (combined-difference generators coordinates-positive c d k.canonical)) same.difference;
+        inside =
+            subst (InSpan base) (sym (combined-difference generators coordinates-positive c d k.canonical))
+            same.difference;
       }))
 
   -- and coefficients that differ by a relation give what is equal
@@ -98,13 +105,16 @@ module _ (generators base relations : Matrix) (prime : IsOverField generators.ri
       → AreEqualModulo generators.ring (InSpan base) v (combined generators c)
       → (d : Vector) × AreCoordinates generators base relations v d
   coordinates-reduced v c canonical h same =
-      let w = reduced_vector_exists relations (subst IsOverField (sym given.ring) prime) IsMatrix-relations_modulo c (over_relations c h) in (
+      let w =
+      reduced_vector_exists relations (subst IsOverField (sym given.ring) prime) IsMatrix-relations_modulo c
+      (over_relations c h) in (
         w.0,
         record {
           coefficients = from_relations w.0 w.1;
           reduced = w.4;
           value =
-              AreEqualModulo-trans ring coordinates-positive base.target (InSpan base) base_submodule v (combined generators c) (combined generators w.0)
+              AreEqualModulo-trans ring coordinates-positive base.target (InSpan base) base_submodule v
+              (combined generators c) (combined generators w.0)
               canonical (canonical-combined c) (canonical-combined w.0) same
               (equal-from_relation c w.0 (from_relations w.0 w.1).canonical (sym w.2) w.3);
         },
@@ -117,10 +127,12 @@ module _ (generators base relations : Matrix) (prime : IsOverField generators.ri
       let c : Vector = s.in_span.coefficients in
       let canonical : IsCanonicalRow ring v.terms =
       subst (λ (w : Vector). IsCanonicalRow ring w.terms) h.value
-      (IsCanonical-row_combination ring coordinates-positive.modulus (stacked generators base).rows h.coefficients.terms) in
+      (IsCanonical-row_combination ring coordinates-positive.modulus
+      (stacked generators base).rows h.coefficients.terms) in
       let second : AreEqualModulo ring (InSpan base) v s.second =
       equal-from_sum v s.first s.second s.in_module
-      (subst (λ (w : Vector). IsCanonicalRow ring w.terms) s.in_span.value (canonical-combined c)) s.first_degree s.second_degree s.sum in
+      (subst (λ (w : Vector). IsCanonicalRow ring w.terms) s.in_span.value
+      (canonical-combined c)) s.first_degree s.second_degree s.sum in
       coordinates-reduced v c canonical s.in_span.homogeneous
       (subst (AreEqualModulo ring (InSpan base) v) (sym s.in_span.value) second)
 
@@ -134,19 +146,25 @@ module _ (generators base relations : Matrix) (prime : IsOverField generators.ri
         in_span = record { coefficients = c; homogeneous = h.coefficients; value = refl };
         first_degree = refl;
         second_degree = sym h.value.degrees;
-        sum = add-negative_again ring coordinates-positive v.terms (combined generators c).terms canonical (canonical-combined c);
+        sum =
+            add-negative_again ring coordinates-positive v.terms (combined generators c).terms canonical
+            (canonical-combined c);
       })
 
   pub unique_coordinates : (v : Vector) → IsCanonicalRow generators.ring v.terms → (c d : Vector)
       → AreCoordinates generators base relations v c → AreCoordinates generators base relations v d → c ≡ d
   unique_coordinates v canonical c d h k =
       let same : AreEqualModulo ring (InSpan base) (combined generators c) (combined generators d) =
-      AreEqualModulo-trans ring coordinates-positive base.target (InSpan base) base_submodule (combined generators c) v (combined generators d)
+      AreEqualModulo-trans ring coordinates-positive base.target (InSpan base) base_submodule
+      (combined generators c) v (combined generators d)
       (canonical-combined c) canonical (canonical-combined d)
-      (AreEqualModulo-sym ring coordinates-positive base.target (InSpan base) base_submodule v (combined generators c) canonical (canonical-combined c) h.value)
+      (AreEqualModulo-sym ring coordinates-positive base.target (InSpan base) base_submodule v
+      (combined generators c) canonical (canonical-combined c) h.value)
       k.value in
-      unique_reduced_vector relations (subst (λ q. IsRing q) (sym given.ring) coordinates-positive) IsMatrix-relations_modulo c d
-      (over_relations c h.coefficients) (over_relations d k.coefficients) same.degrees (relation-from_equal c d h.coefficients k.coefficients same) h.reduced k.reduced
+      unique_reduced_vector relations
+      (subst (λ q. IsRing q) (sym given.ring) coordinates-positive) IsMatrix-relations_modulo c d
+      (over_relations c h.coefficients) (over_relations d k.coefficients) same.degrees
+      (relation-from_equal c d h.coefficients k.coefficients same) h.reduced k.reduced
 
   pub coordinates-lift : (v c : Vector) → IsLift (stacked generators base) v c
       → AreCoordinates generators base relations v (vector_part 0 (length generators.rows) c)
@@ -157,16 +175,21 @@ module _ (generators base relations : Matrix) (prime : IsOverField generators.ri
       let degree : c.degree ≡ v.degree = ap (λ x. x.degree) h.value in
       let inside : InSpan base (combined base last) = record {
         coefficients = last;
-        homogeneous = subst (λ q. IsVector q (row_degrees base) last) given.base_ring (last_coefficients generators base c h.coefficients);
+        homogeneous =
+            subst (λ q. IsVector q (row_degrees base) last) given.base_ring
+            (last_coefficients generators base c h.coefficients);
         value = refl;
       } in
       let sum : row_sum ring (combined base last).terms (combined generators first).terms ≡ v.terms =
-      ap (λ q. row_sum ring (row_combination q base.rows last.terms) (combined generators first).terms) (sym given.base_ring)
+      ap (λ q. row_sum ring (row_combination q base.rows last.terms) (combined generators first).terms)
+      (sym given.base_ring)
       ∙ row_sum-comm ring coordinates-positive.modulus _ _
       ∙ row_combination-blocks generators base coordinates-positive c h.coefficients
       ∙ ap (λ x. x.terms) h.value in
       record {
         coefficients = first_coefficients generators base c h.coefficients;
         reduced = reduced_coordinates generators base relations prime given v c h;
-        value = equal-from_sum v (combined base last) (combined generators first) inside (canonical-combined first) degree degree sum;
+        value =
+            equal-from_sum v (combined base last) (combined generators first) inside
+            (canonical-combined first) degree degree sum;
       }

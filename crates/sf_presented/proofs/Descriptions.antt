@@ -46,7 +46,8 @@ module _ (generators base relations : Matrix) where
   coordinates-equal ring same [] (c ∷ cs) h = absurd h
   coordinates-equal ring same (v ∷ vs) [] h = absurd h
   coordinates-equal ring same (v ∷ vs) (c ∷ cs) h = (
-    subst (λ q. AreEqualModulo q (InSpan base) v (record { degree = c.degree; terms = row_combination q generators.rows c.terms })) same h.0.value,
+    subst (λ q. AreEqualModulo q (InSpan base) v
+        (record { degree = c.degree; terms = row_combination q generators.rows c.terms })) same h.0.value,
     coordinates-equal ring same vs cs h.1,
   )
 
@@ -68,7 +69,8 @@ module _ (generators others base relations other_relations to : Matrix) (prime :
   to-matrix : IsMatrix to
   to-matrix =
       subst (λ q. AllByRecursion (IsVector q to.target) to.rows) (sym description.ring)
-      (subst (λ ds. AllByRecursion (IsVector others.ring ds) to.rows) (sym description.target) (coordinates-coefficients others base other_relations generators.rows to.rows description.rows))
+      (subst (λ ds. AllByRecursion (IsVector others.ring ds) to.rows) (sym description.target)
+      (coordinates-coefficients others base other_relations generators.rows to.rows description.rows))
 
   to-degrees : row_degrees to ≡ row_degrees generators
   to-degrees = coordinates-degrees others base other_relations generators.rows to.rows description.rows
@@ -77,20 +79,25 @@ module _ (generators others base relations other_relations to : Matrix) (prime :
   pub to-coefficients : (c : Vector) → IsCoefficients generators c → IsCoefficients others (combined to c)
   to-coefficients c h =
       subst (λ q. IsVector q (row_degrees others) (combined to c)) (sym others_ring)
-      (IsVector-combined ring positive to to_ring to-matrix (row_degrees generators) (row_degrees others) to-degrees description.target c h)
+      (IsVector-combined ring positive to to_ring to-matrix (row_degrees generators)
+      (row_degrees others) to-degrees description.target c h)
 
   -- which give what is equal
   pub to-equal : (c : Vector) → IsCoefficients generators c
       → AreEqualModulo generators.ring (InSpan base) (combined generators c) (combined others (combined to c))
   to-equal c h =
-      let same : row_combination ring (with_terms (row_combination ring others.rows) to.rows) c.terms ≡ (combined others (combined to c)).terms =
+      let same : row_combination ring (with_terms (row_combination ring others.rows) to.rows) c.terms ≡
+      (combined others (combined to c)).terms =
       row_combination-matrix_product ring positive.modulus (matrix_of ring [] to.rows) others c.terms refl
       ∙ (λ i. row_combination (sym others_ring i) others.rows (row_combination (sym to_ring i) to.rows c.terms)) in
       subst (λ ts. AreEqualModulo ring (InSpan base) (combined generators c) (record { degree = c.degree; terms = ts }))
       same
-      (EqualRows-combined ring positive (InSpan base) base.target (base_submodule generators base relations prime given) generators.rows (with_terms (row_combination ring others.rows) to.rows)
+      (EqualRows-combined ring positive (InSpan base) base.target
+      (base_submodule generators base relations prime given) generators.rows
+      (with_terms (row_combination ring others.rows) to.rows)
       (canonical-with_terms ring positive others.rows to.rows)
-      (coordinates-equal others base other_relations ring others_ring generators.rows to.rows description.rows) c h.homogeneous)
+      (coordinates-equal others base other_relations ring others_ring generators.rows to.rows description.rows) c
+      h.homogeneous)
 
   pub map-description : IsModuleMap relations other_relations to
   map-description = record {
@@ -108,7 +115,8 @@ module _ (generators others base relations other_relations to : Matrix) (prime :
               AreEqualModulo-inside ring positive base.target (InSpan base)
               (base_submodule generators base relations prime given).module_like (combined generators v)
               (combined others (combined to v))
-              (IsCanonical-combined ring positive others others_ring (combined to v)) (to-equal v k.coefficients) k.inside;
+              (IsCanonical-combined ring positive others others_ring (combined to v))
+              (to-equal v k.coefficients) k.inside;
         });
   }
 
@@ -132,14 +140,16 @@ module _ (generators others base relations other_relations to from : Matrix) (pr
       to-coefficients generators others base relations other_relations to prime given other there v coefficients in
       let u : Vector = combined from w in
       let u_coefficients : IsCoefficients generators u =
-      to-coefficients others generators base other_relations relations from other_prime other given back w w_coefficients in
+      to-coefficients others generators base other_relations relations from other_prime other given back w
+      w_coefficients in
       let same : AreEqualModulo ring (InSpan base) (combined generators v) (combined generators u) =
       AreEqualModulo-trans ring positive base.target (InSpan base) (base_submodule generators base relations prime given)
       (combined generators v) (combined others w) (combined generators u)
       (IsCanonical-combined ring positive generators refl v) (IsCanonical-combined ring positive others rings w)
       (IsCanonical-combined ring positive generators refl u)
       (to-equal generators others base relations other_relations to prime given other there v coefficients)
-      (subst (λ q. AreEqualModulo q (InSpan base) (combined others w) (combined generators u)) rings (to-equal others generators base other_relations relations from other_prime other given back w w_coefficients)) in
+      (subst (λ q. AreEqualModulo q (InSpan base) (combined others w) (combined generators u)) rings
+      (to-equal others generators base other_relations relations from other_prime other given back w w_coefficients)) in
       let to_here : to.ring ≡ ring = there.ring ∙ rings in
       subst (AreEqualModulo relations.ring (InSpan relations) v)
       (sym (combined-matrix_product to from (subst (λ q. IsRing q) (sym to_here) positive) (to_here ∙ sym back.ring) v))

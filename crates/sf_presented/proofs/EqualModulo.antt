@@ -21,15 +21,18 @@ module _ (ring : Ring) (positive : IsRing ring) (degrees : List ℤ) (B : Vector
   negative-inside d ts h =
       let canonical = (b.module_like.vectors (record { degree = d; terms = ts }) h).canonical in
       subst (λ us. B (record { degree = d; terms = us }))
-      (row_sum-nil_first ring positive.modulus (negative ring.modulus ts) (IsCanonical-negative (place_cmp ring.weights) ring.modulus ts canonical))
-      (b.module_like.differences (record { degree = d; terms = [] }) (record { degree = d; terms = ts }) (zero-inside ring positive degrees B b d) h refl)
+      (row_sum-nil_first ring positive.modulus (negative ring.modulus ts)
+      (IsCanonical-negative (place_cmp ring.weights) ring.modulus ts canonical))
+      (b.module_like.differences (record { degree = d; terms = [] }) (record { degree = d; terms = ts })
+      (zero-inside ring positive degrees B b d) h refl)
 
   pub AreEqualModulo-refl : (v : Vector) → IsCanonicalRow ring v.terms → AreEqualModulo ring B v v
   AreEqualModulo-refl v h = record {
     degrees = refl;
     difference =
         subst (λ us. B (record { degree = v.degree; terms = us }))
-        (sym (add-negative (place_keys ring.weights) ring.modulus positive.modulus v.terms h)) (zero-inside ring positive degrees B b v.degree);
+        (sym (add-negative (place_keys ring.weights) ring.modulus positive.modulus v.terms h))
+        (zero-inside ring positive degrees B b v.degree);
   }
 
   -- equal vectors
@@ -42,7 +45,11 @@ module _ (ring : Ring) (positive : IsRing ring) (degrees : List ℤ) (B : Vector
     degrees = sym same.degrees;
     difference =
         subst B
-        (λ i. record { degree = same.degrees i; terms = (minus-difference (vectors ring positive.modulus) (u.terms, h) (v.terms, k) i).0 })
+        (λ i. record {
+          degree = same.degrees i;
+          terms =
+              (minus-difference (vectors ring positive.modulus) (u.terms, h) (v.terms, k) i).0;
+        })
         (negative-inside u.degree (vector_difference ring u v).terms same.difference);
   }
 
@@ -53,7 +60,9 @@ module _ (ring : Ring) (positive : IsRing ring) (degrees : List ℤ) (B : Vector
     difference =
         subst (λ us. B (record { degree = u.degree; terms = us }))
         (λ i. (difference-difference (vectors ring positive.modulus) (u.terms, h) (v.terms, k) (w.terms, l) i).0)
-        ((submodule_closed ring positive degrees B b).sums u.degree (vector_difference ring u v).terms (vector_difference ring v w).terms
+        ((submodule_closed ring positive degrees B b).sums u.degree (vector_difference ring u v).terms
+        (vector_difference ring v w).terms
         first.difference
-        (subst (λ d. B (record { degree = d; terms = (vector_difference ring v w).terms })) (sym first.degrees) second.difference));
+        (subst (λ d. B (record { degree = d; terms = (vector_difference ring v w).terms }))
+        (sym first.degrees) second.difference));
   }

@@ -89,8 +89,10 @@ module _ (ring : Ring) (positive : IsRing ring) where
       degrees = refl;
       difference =
           subst (λ ts. B (record { degree = c.degree; terms = ts }))
-          (row_combination-add_rows ring positive.modulus (differences vs ws) vs (opposite ws) (row_at-differences vs ws h) c.terms
-          ∙ ap (row_sum ring (row_combination ring vs c.terms)) (row_combination-negated (matrix_of ring [] ws) positive.modulus canonical c.terms))
+          (row_combination-add_rows ring positive.modulus (differences vs ws) vs (opposite ws)
+          (row_at-differences vs ws h) c.terms
+          ∙ ap (row_sum ring (row_combination ring vs c.terms))
+          (row_combination-negated (matrix_of ring [] ws) positive.modulus canonical c.terms))
           (b.combinations (differences vs ws) (differences-inside vs ws h) c.degree c.terms
           (subst (λ ds. IsHomogeneous ring.weights ds c.degree c.terms) (sym (degrees-differences vs ws h)) homogeneous));
     }

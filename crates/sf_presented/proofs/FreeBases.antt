@@ -86,7 +86,11 @@ IsApart-insert_by_degree : (v : Vector) (ws : List Vector) → AllByRecursion (A
 IsApart-insert_by_degree v [] h k = (tt, tt)
 IsApart-insert_by_degree v (w ∷ ws) h k =
     match_ordering_cases (int_cmp v.degree w.degree) _ _ _ IsApart (λ less. (h, k)) (λ equal. (h, k))
-    (λ greater. (AllByRecursion-insert_by_degree (AreApart w) v ws (h.0.1, h.0.0) k.0, IsApart-insert_by_degree v ws h.1 k.1))
+    (λ greater. (
+      AllByRecursion-insert_by_degree (AreApart w) v ws
+          (h.0.1, h.0.0) k.0,
+      IsApart-insert_by_degree v ws h.1 k.1,
+    ))
 
 -- unit vectors at two positions
 not_divided : (j k : Place) → (j.position ≡ k.position → ⊥) → place_divides j k ≡ false
@@ -101,8 +105,10 @@ apart-unit d i w h =
     let later : suc i ≤ h.position = h.behind in
     let here : Place = record { position = i; monomial = one } in
     let there : Place = record { position = h.position; monomial = one } in
-    subst (AreApart (unit_vector d i)) h.same
-    ((ap (λ b. b || false) (not_divided there here (λ e. omega (arith, later))), tt), (ap (λ b. b || false) (not_divided here there (λ e. omega (arith, later))), tt))
+    subst (AreApart (unit_vector d i)) h.same (
+      (ap (λ b. b || false) (not_divided there here (λ e. omega (arith, later))), tt),
+      (ap (λ b. b || false) (not_divided here there (λ e. omega (arith, later))), tt),
+    )
 
 module _ (weights : Weights) where
   lead-unit : (d : ℤ) (i : ℕ) (w : Vector) → IsUnitFrom (suc i) w
@@ -153,7 +159,8 @@ IsApart-units : (i : ℕ) (ds : List ℤ) → IsApart (by_degree (unit_rows i ds
 IsApart-units i [] = tt
 IsApart-units i (d ∷ ds) =
     IsApart-insert_by_degree (unit_vector d i) (by_degree (unit_rows (suc i) ds))
-    (AllByRecursion-by_degree (AreApart (unit_vector d i)) (unit_rows (suc i) ds) (AllByRecursion-weaken _ _ (apart-unit d i) (unit_rows (suc i) ds) (unit_rows-from (suc i) ds)))
+    (AllByRecursion-by_degree (AreApart (unit_vector d i)) (unit_rows (suc i) ds)
+    (AllByRecursion-weaken _ _ (apart-unit d i) (unit_rows (suc i) ds) (unit_rows-from (suc i) ds)))
     (IsApart-units (suc i) ds)
 
 IsMonic-units : (i : ℕ) (ds : List ℤ) → AllByRecursion (λ (v : Vector). IsMonic v.terms) (unit_rows i ds)
@@ -166,7 +173,8 @@ is_divided-units : (i : ℕ) (ds : List ℤ) (n : ℕ) (k : Place) → k.positio
 is_divided-units i [] n k e h = absurd (omega arith)
 is_divided-units i (d ∷ ds) zero k e h =
     or_left (place_divides (record { position = i; monomial = one }) k) _
-    ((Decides-place_divides (record { position = i; monomial = one }) k).1 (omega arith, (omega arith, omega arith, omega arith, omega arith, omega arith, omega arith)))
+    ((Decides-place_divides (record { position = i; monomial = one }) k).1
+    (omega arith, (omega arith, omega arith, omega arith, omega arith, omega arith, omega arith)))
 is_divided-units i (d ∷ ds) (suc n) k e h =
     or_right (place_divides (record { position = i; monomial = one }) k) _
     (is_divided-units (suc i) ds n k (omega arith) (omega arith))
@@ -175,10 +183,12 @@ HasDividedLead-units : (ring : Ring) (degrees : List ℤ) (v : Vector) → IsVec
     → HasDividedLead (unit_basis degrees) v.terms
 HasDividedLead-units ring degrees v h = lead v.terms h.homogeneous
   where
-    lead : (ts : List (Term Place)) → IsHomogeneous ring.weights degrees v.degree ts → HasDividedLead (unit_basis degrees) ts
+    lead : (ts : List (Term Place)) → IsHomogeneous ring.weights degrees v.degree ts
+        → HasDividedLead (unit_basis degrees) ts
     lead [] k = tt
     lead (t ∷ ts) k =
-        is_divided-by_degree (unit_rows 0 degrees) t.at (is_divided-units 0 degrees t.at.position t.at (omega arith) k.0.0)
+        is_divided-by_degree (unit_rows 0 degrees) t.at
+        (is_divided-units 0 degrees t.at.position t.at (omega arith) k.0.0)
 
 module _ (ring : Ring) (positive : IsRing ring) (above : 1 < ring.modulus) (degrees : List ℤ) where
   units-matrix : AllByRecursion (IsVector ring degrees) (unit_rows 0 degrees)

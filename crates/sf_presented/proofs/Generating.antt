@@ -44,7 +44,8 @@ module _ (ring : Ring) (prime : IsOverField ring) (target : List ℤ) (N B : Vec
     relate = λ c. (
       λ k. subst (λ m. InSpan m c) as_rows
           (InSpan-minimal ring prime (row_degrees g) (IsRelation g B) relations_submodule r.rows h.relations_minimal c k),
-      λ k. InSpan-minimal_inside ring prime (row_degrees g) (IsRelation g B) relations_submodule r.rows h.relations_minimal c
+      λ k. InSpan-minimal_inside ring prime (row_degrees g)
+          (IsRelation g B) relations_submodule r.rows h.relations_minimal c
           (subst (λ m. InSpan m c) (sym as_rows) k),
     );
   }
@@ -56,7 +57,8 @@ cycle_submodule ring positive degrees out beyond first second same matrix =
     subst (λ ds. IsSubmodule ring ds (IsCycle out beyond)) same
     (subst (λ q. IsSubmodule q (row_degrees out) (IsCycle out beyond)) first
     (relation_submodule out (subst (λ q. IsRing q) (sym first) positive) beyond.target (InSpan beyond)
-    (span_submodule_of out.ring (subst (λ q. IsRing q) (sym first) positive) beyond.target beyond (second ∙ sym first) refl matrix)))
+    (span_submodule_of out.ring (subst (λ q. IsRing q) (sym first) positive) beyond.target beyond
+    (second ∙ sym first) refl matrix)))
 
 -- all vectors
 any_submodule : (ring : Ring) → IsRing ring → (degrees : List ℤ) → IsSubmodule ring degrees (IsAny ring degrees)
@@ -76,7 +78,8 @@ pub presented-kernel : (source target map : Matrix) → IsOverField source.ring 
 presented-kernel source target map prime first second h g r =
     let positive : IsRing source.ring = field_ring prime in
     presented source.ring prime source.target (IsCycle map target) (InSpan source)
-    (cycle_submodule source.ring positive source.target map target h.source_ring (sym h.target_ring ∙ h.source_ring) h.source_degrees second)
+    (cycle_submodule source.ring positive source.target map target h.source_ring
+    (sym h.target_ring ∙ h.source_ring) h.source_degrees second)
     (span_submodule_of source.ring positive source.target source refl refl first) g r
 
 module _ (source target map : Matrix) (prime : IsOverField target.ring) (matrix : IsMatrix target)
@@ -106,5 +109,6 @@ presented-homology place prime h =
     presented place.here.ring prime place.here.target (IsCycle place.out place.beyond)
     (InSpan (stacked place.arriving place.here))
     (cycle_submodule place.here.ring positive place.here.target place.out place.beyond h.out_ring h.beyond_ring h.out_degrees h.beyond_matrix)
-    (span_submodule_of place.here.ring positive place.here.target (stacked place.arriving place.here) h.arriving_ring h.arriving_target
+    (span_submodule_of place.here.ring positive place.here.target
+    (stacked place.arriving place.here) h.arriving_ring h.arriving_target
     (IsMatrix-stacked place.arriving place.here h.arriving_ring h.arriving_target h.arriving_matrix h.here_matrix))

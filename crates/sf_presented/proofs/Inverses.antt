@@ -41,17 +41,25 @@ module _ (relations m : Matrix) (positive : IsRing relations.ring) (above : 1 < 
       let image : Vector → Vector = λ u. record { degree = u.degree; terms = row_combination ring m.rows u.terms } in
       let rows : AreEqualRows ring (InSpan relations) units (map image units) =
       EqualRows-image ring (InSpan relations) image units
-      (AllByRecursion-weaken _ _ (λ u k. subst (λ q. AreEqualModulo ring (InSpan relations) u (record { degree = u.degree; terms = row_combination q m.rows u.terms })) same_ring k) units h) in
-      let same = EqualRows-combined ring positive (InSpan relations) relations.target (span_submodule relations positive matrix) units (map image units)
+      (AllByRecursion-weaken _ _
+      (λ u k. subst (λ q. AreEqualModulo ring (InSpan relations) u
+      (record { degree = u.degree; terms = row_combination q m.rows u.terms })) same_ring k) units h) in
+      let same =
+      EqualRows-combined ring positive (InSpan relations) relations.target
+      (span_submodule relations positive matrix) units (map image units)
       (canonical-with_terms ring positive m.rows units) rows v
-      (subst (λ ds. IsHomogeneous ring.weights ds v.degree v.terms) (sym (row_degrees-identity ring relations.target)) vector.homogeneous) in
+      (subst (λ ds. IsHomogeneous ring.weights ds v.degree v.terms)
+      (sym (row_degrees-identity ring relations.target)) vector.homogeneous) in
       let first : row_combination ring units v.terms ≡ v.terms =
       row_combination-identity ring positive.modulus relations.target v vector in
       let second : row_combination ring (map image units) v.terms ≡ row_combination m.ring m.rows v.terms =
       row_combination-matrix_product ring positive.modulus (matrix_of ring relations.target units) m v.terms refl
       ∙ (λ i. row_combination (sym same_ring i) m.rows (first i)) in
-      subst (λ x. AreEqualModulo ring (InSpan relations) x (combined m v)) (λ i. record { degree = v.degree; terms = first i })
-      (subst (AreEqualModulo ring (InSpan relations) (record { degree = v.degree; terms = row_combination ring units v.terms })) (λ i. record { degree = v.degree; terms = second i }) same)
+      subst (λ x. AreEqualModulo ring (InSpan relations) x (combined m v))
+      (λ i. record { degree = v.degree; terms = first i })
+      (subst (AreEqualModulo ring (InSpan relations)
+      (record { degree = v.degree; terms = row_combination ring units v.terms }))
+      (λ i. record { degree = v.degree; terms = second i }) same)
 
   pub identity-units : IsIdentityModulo relations m ↔ GivesUnitsBack relations m
   identity-units = (units-back, identity-by_units)
@@ -78,7 +86,8 @@ reduced_rows relations prime matrix (v ∷ vs) h =
 
 -- reduced vectors that are equal modulo relations, one after another
 same_reduced_rows : (relations : Matrix) → IsRing relations.ring → IsMatrix relations → (vs ws : List Vector)
-    → AllByRecursion (IsVector relations.ring relations.target) vs → AllByRecursion (IsVector relations.ring relations.target) ws
+    → AllByRecursion (IsVector relations.ring relations.target) vs
+    → AllByRecursion (IsVector relations.ring relations.target) ws
     → AllByRecursion (IsReducedByRelations relations) vs → AllByRecursion (IsReducedByRelations relations) ws
     → AreEqualRows relations.ring (InSpan relations) vs ws → vs ≡ ws
 same_reduced_rows relations positive matrix [] [] h k r s e = refl
@@ -113,7 +122,8 @@ module _ (first second to : Matrix) (prime : IsOverField first.ring) (first_matr
 
     to_vector : (v : Vector) → IsVector ring first.target v → IsVector ring second.target (combined to v)
     to_vector v h =
-        IsVector-combined ring positive to to_map.source_ring to_map.matrix first.target second.target to_map.source_degrees to_map.target_degrees v h
+        IsVector-combined ring positive to to_map.source_ring to_map.matrix first.target second.target
+        to_map.source_degrees to_map.target_degrees v h
 
   module _ (from : Matrix) (h : AreInverseModulo first second to from) where
     from_rows : AllByRecursion (IsVector ring first.target) from.rows
@@ -137,7 +147,8 @@ module _ (first second to : Matrix) (prime : IsOverField first.ring) (first_matr
     from-equal : (v : Vector) → IsVector ring second.target v
         → AreEqualModulo ring (InSpan first) (combined from v) (combined inverse v)
     from-equal v vector =
-        subst (λ q. AreEqualModulo ring (InSpan first) (record { degree = v.degree; terms = row_combination q from.rows v.terms }) (combined inverse v)) (sym from_ring)
+        subst (λ q. AreEqualModulo ring (InSpan first)
+        (record { degree = v.degree; terms = row_combination q from.rows v.terms }) (combined inverse v)) (sym from_ring)
         (EqualRows-combined ring positive (InSpan first) first.target inside_first from.rows some.rows
         (AllByRecursion-weaken _ _ (λ w k. k.canonical) some.rows some.vectors) some.equal v
         (subst (λ ds. IsHomogeneous ring.weights ds v.degree v.terms) (sym h.from_map.source_degrees) vector.homogeneous))
@@ -156,7 +167,8 @@ module _ (first second to : Matrix) (prime : IsOverField first.ring) (first_matr
       source_degrees = degrees-inverse ∙ h.from_map.source_degrees;
       target_degrees = refl;
       sends = λ v k.
-          AreEqualModulo-inside ring positive first.target (InSpan first) inside_first.module_like (combined from v) (combined inverse v)
+          AreEqualModulo-inside ring positive first.target (InSpan first) inside_first.module_like (combined from v)
+          (combined inverse v)
           (canonical-inverse v) (from-equal v ((inside_second h.to_map).module_like.vectors v k)) (h.from_map.sends v k);
     }
 
@@ -167,30 +179,38 @@ module _ (first second to : Matrix) (prime : IsOverField first.ring) (first_matr
     inverse-back v vector =
         let w : Vector = combined to v in
         let given : AreEqualModulo ring (InSpan first) v (combined from w) =
-        subst (AreEqualModulo ring (InSpan first) v) (combined-matrix_product to from to_positive (h.to_map.source_ring ∙ sym from_ring) v) (h.back v vector) in
+        subst (AreEqualModulo ring (InSpan first) v)
+        (combined-matrix_product to from to_positive (h.to_map.source_ring ∙ sym from_ring) v) (h.back v vector) in
         subst (AreEqualModulo ring (InSpan first) v)
         (sym (combined-matrix_product to inverse to_positive h.to_map.source_ring v))
-        (AreEqualModulo-trans ring positive first.target (InSpan first) inside_first v (combined from w) (combined inverse w) vector.canonical (canonical-from w) (canonical-inverse w) given
+        (AreEqualModulo-trans ring positive first.target (InSpan first) inside_first v (combined from w)
+        (combined inverse w) vector.canonical (canonical-from w) (canonical-inverse w) given
         (from-equal w (to_vector h.to_map v vector)))
 
     inverse-forth : IsIdentityModulo second (matrix_product inverse to)
     inverse-forth v vector =
         let given : AreEqualModulo second.ring (InSpan second) v (combined to (combined from v)) =
         subst (AreEqualModulo second.ring (InSpan second) v)
-        (combined-matrix_product from to (subst (λ q. IsRing q) (sym from_ring) positive) (from_ring ∙ sym h.to_map.source_ring) v) (h.forth v vector) in
-        let same : AreEqualModulo to.ring (InSpan second) (combined to (combined from v)) (combined to (combined inverse v)) =
-        combined-AreEqualModulo to to_positive (InSpan first) (InSpan second) h.to_map.sends (combined from v) (combined inverse v)
+        (combined-matrix_product from to (subst (λ q. IsRing q) (sym from_ring) positive)
+        (from_ring ∙ sym h.to_map.source_ring) v) (h.forth v vector) in
+        let same : AreEqualModulo to.ring (InSpan second) (combined to (combined from v))
+        (combined to (combined inverse v)) =
+        combined-AreEqualModulo to to_positive (InSpan first) (InSpan second) h.to_map.sends (combined from v)
+        (combined inverse v)
         (subst (λ q. IsCanonicalRow q (combined inverse v).terms) (sym h.to_map.source_ring) (canonical-inverse v))
-        (subst (λ q. AreEqualModulo q (InSpan first) (combined from v) (combined inverse v)) (sym h.to_map.source_ring) (from-equal v (over_second h.to_map v vector))) in
+        (subst (λ q. AreEqualModulo q (InSpan first) (combined from v) (combined inverse v))
+        (sym h.to_map.source_ring) (from-equal v (over_second h.to_map v vector))) in
         let second_positive : IsRing second.ring = subst (λ q. IsRing q) (sym (second_ring h.to_map)) positive in
         subst (AreEqualModulo second.ring (InSpan second) v)
         (sym (combined-matrix_product inverse to positive (sym h.to_map.source_ring) v))
         (AreEqualModulo-trans second.ring second_positive second.target (InSpan second)
-        (span_submodule second second_positive second_matrix) v (combined to (combined from v)) (combined to (combined inverse v))
+        (span_submodule second second_positive second_matrix) v (combined to (combined from v))
+        (combined to (combined inverse v))
         vector.canonical
         (IsCanonical-combined second.ring second_positive to h.to_map.target_ring (combined from v))
         (IsCanonical-combined second.ring second_positive to h.to_map.target_ring (combined inverse v))
-        given (subst (λ q. AreEqualModulo q (InSpan second) (combined to (combined from v)) (combined to (combined inverse v))) h.to_map.target_ring same))
+        given (subst (λ q. AreEqualModulo q (InSpan second) (combined to (combined from v))
+        (combined to (combined inverse v))) h.to_map.target_ring same))
 
     pub reduced_inverse : (inverse : Matrix) × AreInverseModulo first second to inverse
         × AllByRecursion (IsReducedByRelations first) inverse.rows
@@ -215,21 +235,27 @@ module _ (first second to : Matrix) (prime : IsOverField first.ring) (first_matr
         let w : Vector = combined b v in
         let u : Vector = combined to w in
         let w_vector : IsVector ring first.target w =
-        IsVector-combined ring positive b b_ring k.from_map.matrix second.target first.target k.from_map.source_degrees k.from_map.target_degrees v vector in
+        IsVector-combined ring positive b b_ring k.from_map.matrix second.target first.target
+        k.from_map.source_degrees k.from_map.target_degrees v vector in
         let given : AreEqualModulo second.ring (InSpan second) v u =
         subst (AreEqualModulo second.ring (InSpan second) v)
         (combined-matrix_product b to (subst (λ q. IsRing q) (sym b_ring) positive) (b_ring ∙ sym to_ring) v)
         (k.forth v (subst (λ q. IsVector q second.target v) (sym (second_ring h.to_map)) vector)) in
         let one : AreEqualModulo ring (InSpan first) (combined a v) (combined a u) =
         subst (λ q. AreEqualModulo q (InSpan first) (combined a v) (combined a u)) a_ring
-        (combined-AreEqualModulo a (subst (λ q. IsRing q) (sym a_ring) positive) (InSpan second) (InSpan first) h.from_map.sends v u
+        (combined-AreEqualModulo a (subst (λ q. IsRing q) (sym a_ring) positive) (InSpan second)
+        (InSpan first) h.from_map.sends v u
         (IsCanonical-combined a.ring (subst (λ q. IsRing q) (sym a_ring) positive) to (to_ring ∙ sym a_ring) w)
         (subst (λ q. AreEqualModulo q (InSpan second) v u) (second_ring h.to_map ∙ sym a_ring) given)) in
         let two : AreEqualModulo ring (InSpan first) w (combined a u) =
-        subst (AreEqualModulo ring (InSpan first) w) (combined-matrix_product to a (subst (λ q. IsRing q) (sym to_ring) positive) (to_ring ∙ sym a_ring) w) (h.back w w_vector) in
+        subst (AreEqualModulo ring (InSpan first) w)
+        (combined-matrix_product to a (subst (λ q. IsRing q) (sym to_ring) positive) (to_ring ∙ sym a_ring) w)
+        (h.back w w_vector) in
         AreEqualModulo-trans ring positive first.target (InSpan first) inside_first (combined a v) (combined a u) w
-        (IsCanonical-combined ring positive a a_ring v) (IsCanonical-combined ring positive a a_ring u) w_vector.canonical one
-        (AreEqualModulo-sym ring positive first.target (InSpan first) inside_first w (combined a u) w_vector.canonical (IsCanonical-combined ring positive a a_ring u) two)
+        (IsCanonical-combined ring positive a a_ring v)
+        (IsCanonical-combined ring positive a a_ring u) w_vector.canonical one
+        (AreEqualModulo-sym ring positive first.target (InSpan first) inside_first w (combined a u) w_vector.canonical
+        (IsCanonical-combined ring positive a a_ring u) two)
 
     -- the rows of a map out of the second module, as images of unit vectors
     rows-images : (m : Matrix) → IsModuleMap second first m
@@ -242,9 +268,11 @@ module _ (first second to : Matrix) (prime : IsOverField first.ring) (first_matr
     rows-equal : AreEqualRows ring (InSpan first) a.rows b.rows
     rows-equal =
         subst (λ vs. AreEqualRows ring (InSpan first) vs b.rows) (rows-images a h.from_map)
-        (subst (AreEqualRows ring (InSpan first) (map (combined a) (unit_rows 0 second.target))) (rows-images b k.from_map)
+        (subst (AreEqualRows ring (InSpan first) (map (combined a) (unit_rows 0 second.target)))
+        (rows-images b k.from_map)
         (EqualRows-map ring (InSpan first) (combined a) (combined b) (unit_rows 0 second.target)
-        (AllByRecursion-weaken _ _ inverses-equal (unit_rows 0 second.target) (IsMatrix-identity ring prime.prime.above_one second.target))))
+        (AllByRecursion-weaken _ _ inverses-equal (unit_rows 0 second.target)
+        (IsMatrix-identity ring prime.prime.above_one second.target))))
 
     rows-vectors : (m : Matrix) → IsModuleMap second first m → AllByRecursion (IsVector ring first.target) m.rows
     rows-vectors m l =
@@ -255,7 +283,8 @@ module _ (first second to : Matrix) (prime : IsOverField first.ring) (first_matr
         → AllByRecursion (IsReducedByRelations first) b.rows → a ≡ b
     unique_reduced_inverse r s =
         let rows : a.rows ≡ b.rows =
-        same_reduced_rows first positive first_matrix a.rows b.rows (rows-vectors a h.from_map) (rows-vectors b k.from_map) r s rows-equal in
+        same_reduced_rows first positive first_matrix a.rows b.rows (rows-vectors a h.from_map)
+        (rows-vectors b k.from_map) r s rows-equal in
         λ i. record {
           ring = (a_ring ∙ sym b_ring) i;
           target = (h.from_map.target_degrees ∙ sym k.from_map.target_degrees) i;

@@ -123,7 +123,8 @@ pub merely-presentation : (ring : Ring) → IsRing ring → (target degrees : Li
     → HasOneBasis ring.weights N → IsModuleLike ring degrees B → (g r h s : Matrix)
     → Merely (IsPresentation ring target N B g r) → Merely (IsPresentation ring target N B h s) → (g ≡ h) × (r ≡ s)
 merely-presentation ring positive target degrees N B one module_like g r h s =
-    merely-both _ _ _ (same_pair-prop g h r s) (unique_presentation ring positive target degrees N B one module_like g r h s)
+    merely-both _ _ _ (same_pair-prop g h r s)
+    (unique_presentation ring positive target degrees N B one module_like g r h s)
 
 pub merely-homology : (place : ComplexPlace) → IsRing place.here.ring → place.arriving.ring ≡ place.here.ring
     → place.out.ring ≡ place.here.ring → place.beyond.ring ≡ place.here.ring
@@ -191,7 +192,9 @@ pub kept-homology : (place : ComplexPlace) → IsOverField place.here.ring → I
 kept-homology place prime h g r =
     let e = homology_exists place prime h in
     merely-holds_pair (IsHomology place) e.0 e.1 g r
-    (unique_homology place (field_ring prime) h.arriving_ring h.out_ring h.beyond_ring (IsMatrix-stacked place.arriving place.here h.arriving_ring h.arriving_target h.arriving_matrix h.here_matrix) h.beyond_matrix e.0 e.1 g r)
+    (unique_homology place (field_ring prime) h.arriving_ring h.out_ring h.beyond_ring
+    (IsMatrix-stacked place.arriving place.here h.arriving_ring h.arriving_target h.arriving_matrix h.here_matrix)
+    h.beyond_matrix e.0 e.1 g r)
     e.2
 
 pub kept-kernel : (source target map : Matrix) → IsOverField source.ring → IsMatrix source → IsMatrix target
@@ -200,7 +203,8 @@ pub kept-kernel : (source target map : Matrix) → IsOverField source.ring → I
 kept-kernel source target map prime first second h g r =
     let e = kernel_exists source target map prime first second h in
     merely-holds_pair (IsKernel source target map) e.0 e.1 g r
-    (unique_kernel source target map (field_ring prime) h.source_ring (sym h.target_ring ∙ h.source_ring) first second e.0 e.1 g r)
+    (unique_kernel source target map (field_ring prime) h.source_ring
+    (sym h.target_ring ∙ h.source_ring) first second e.0 e.1 g r)
     e.2
 
 module _ (source target map : Matrix) (prime : IsOverField target.ring) (matrix : IsMatrix target)
@@ -240,7 +244,8 @@ kept-reduced m prime matrix v h =
       reduced_basis = b.1;
       reduced =
           ∥∥₁_elim h (IsReducedBy-prop b.0 v.terms)
-          (λ k. subst (λ basis. IsReducedBy basis v.terms) (one_span_basis m (field_ring prime) matrix k.basis b.0 k.reduced_basis b.1) k.reduced);
+          (λ k. subst (λ basis. IsReducedBy basis v.terms)
+          (one_span_basis m (field_ring prime) matrix k.basis b.0 k.reduced_basis b.1) k.reduced);
     }
 
 pub kept-coordinates : (generators base relations : Matrix) → IsOverField generators.ring
@@ -270,11 +275,16 @@ kept-minimal_span m base prime rings targets matrix other generators h =
     let rows : AllByRecursion (IsVector m.ring m.target) base.rows =
     subst (λ q. AllByRecursion (IsVector q m.target) base.rows) rings
     (subst (λ ds. AllByRecursion (IsVector base.ring ds) base.rows) targets other) in
-    let g = minimal_modulo_span m.ring m.target prime (InSpan m) (span_module m (field_ring prime) matrix).vectors b.0 b.1 base.rows rows in
+    let g =
+    minimal_modulo_span m.ring m.target prime (InSpan m)
+    (span_module m (field_ring prime) matrix).vectors b.0 b.1 base.rows rows in
     let there : AreMinimal m.ring (InSpan m) (InSpan base) g.generators =
-    subst (λ q. AreMinimal m.ring (InSpan m) (InSpan (matrix_of q m.target base.rows)) g.generators) (sym rings) g.minimal in
-    merely-holds (AreMinimal m.ring (InSpan m) (InSpan base)) g.generators generators (same_vectors-prop g.generators generators)
-    (unique_minimal m.ring m.target (InSpan m) (InSpan base) (one_span_basis m (field_ring prime) matrix) g.generators generators) there h
+    subst (λ q. AreMinimal m.ring (InSpan m) (InSpan (matrix_of q m.target base.rows)) g.generators)
+    (sym rings) g.minimal in
+    merely-holds (AreMinimal m.ring (InSpan m) (InSpan base)) g.generators generators
+    (same_vectors-prop g.generators generators)
+    (unique_minimal m.ring m.target (InSpan m) (InSpan base)
+    (one_span_basis m (field_ring prime) matrix) g.generators generators) there h
 
 pub kept-minimal_relations : (m base : Matrix) → IsOverField m.ring → m.ring ≡ base.ring → m.target ≡ base.target
     → IsMatrix m → IsMatrix base → (generators : List Vector)
@@ -282,9 +292,12 @@ pub kept-minimal_relations : (m base : Matrix) → IsOverField m.ring → m.ring
     → AreMinimal m.ring (IsRelation m (InSpan base)) IsZero generators
 kept-minimal_relations m base prime rings targets matrix other generators h =
     let b = relation_basis m base prime rings targets matrix other in
-    let g = minimal_modulo_zero m.ring (row_degrees m) prime (IsRelation m (InSpan base)) (λ c k. k.coefficients) b.0 b.1 in
-    merely-holds (AreMinimal m.ring (IsRelation m (InSpan base)) IsZero) g.generators generators (same_vectors-prop g.generators generators)
-    (unique_minimal m.ring (row_degrees m) (IsRelation m (InSpan base)) IsZero (one_relation_basis m base (field_ring prime) rings other) g.generators generators)
+    let g =
+    minimal_modulo_zero m.ring (row_degrees m) prime (IsRelation m (InSpan base)) (λ c k. k.coefficients) b.0 b.1 in
+    merely-holds (AreMinimal m.ring (IsRelation m (InSpan base)) IsZero) g.generators generators
+    (same_vectors-prop g.generators generators)
+    (unique_minimal m.ring (row_degrees m) (IsRelation m (InSpan base)) IsZero
+    (one_relation_basis m base (field_ring prime) rings other) g.generators generators)
     g.minimal h
 
 pub kept-module_map : (source target map : Matrix) → IsOverField target.ring → IsMatrix target

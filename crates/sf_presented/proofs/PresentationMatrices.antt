@@ -14,7 +14,8 @@ pub IsMatrix-kernel : (source target map : Matrix) → map.ring ≡ source.ring 
     → (g r : Matrix) → IsKernel source target map g r → IsMatrix g × IsMatrix r
 IsMatrix-kernel source target map same_ring degrees g r h = (
   IsMatrix-generators source.ring source.target (IsCycle map target) (InSpan source) g r h
-      (λ v k. subst (λ ds. IsVector source.ring ds v) degrees (subst (λ q. IsVector q (row_degrees map) v) same_ring k.coefficients)),
+      (λ v k. subst (λ ds. IsVector source.ring ds v) degrees
+      (subst (λ q. IsVector q (row_degrees map) v) same_ring k.coefficients)),
   IsMatrix-relations source.ring source.target (IsCycle map target) (InSpan source) g r h,
 )
 

@@ -99,7 +99,8 @@ module _ (source target map : Matrix) (prime : IsOverField target.ring) (matrix 
       → AreRelationsModulo g (stacked map target) r
       × ((v : Vector) → IsAny target.ring target.target v → (c : Vector) × AreCoordinates g (stacked map target) r v c)
   coordinates-cokernel k =
-      coordinates-presentation target.ring prime target.target (IsAny target.ring target.target) (stacked map target) h.target_ring
+      coordinates-presentation target.ring prime target.target (IsAny target.ring target.target)
+      (stacked map target) h.target_ring
       (IsMatrix-stacked map target h.target_ring h.target_degrees h.matrix matrix) g r k
       (presented-cokernel source target map prime matrix h g r k)
 

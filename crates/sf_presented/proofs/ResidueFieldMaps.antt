@@ -75,8 +75,10 @@ ideal-kernel = record {
   generators_ring = refl;
   generators_target = refl;
   generators_minimal =
-      AreMinimal-same (plain 101) (pos 0 ∷ []) (IsCycle one_map residue_field) (IsCycle one_map residue_field) IsZero (InSpan whole_ring)
-      (λ v k. k) (λ v k. k) free_from_zero (span-no_rows (plain 101) positive (pos 0 ∷ [])) two_variables.rows koszul-cokernel.relations_minimal;
+      AreMinimal-same (plain 101) (pos 0 ∷ []) (IsCycle one_map residue_field) (IsCycle one_map residue_field) IsZero
+      (InSpan whole_ring)
+      (λ v k. k) (λ v k. k) free_from_zero
+      (span-no_rows (plain 101) positive (pos 0 ∷ [])) two_variables.rows koszul-cokernel.relations_minimal;
   relations_ring = refl;
   relations_target = refl;
   relations_minimal = record {
@@ -88,13 +90,15 @@ ideal-kernel = record {
 
 pub refuses_free_kernel : RefusesFreeKernel
 refuses_free_kernel h =
-    let same = (unique_kernel whole_ring residue_field one_map positive refl refl tt variables-matrix two_variables _ two_variables koszul h ideal-kernel).1 in
+    let same =
+    (unique_kernel whole_ring residue_field one_map positive refl refl tt variables-matrix two_variables _ two_variables koszul h ideal-kernel).1 in
     let rows : [] ≡ koszul_row ∷ [] = ap (λ (m : Matrix). m.rows) same in
     cc
 
 pub refuses_kernel_in_ring : RefusesKernelInRing
 refuses_kernel_in_ring relations h =
-    x-not_zero (minimal-inside (plain 101) (pos 0 ∷ []) (IsCycle one_map whole_ring) (InSpan whole_ring) two_variables.rows h.generators_minimal).0.inside
+    x-not_zero (minimal-inside (plain 101) (pos 0 ∷ []) (IsCycle one_map whole_ring)
+    (InSpan whole_ring) two_variables.rows h.generators_minimal).0.inside
 
 -- 1 with x and y spans all vectors
 both-matrix : IsMatrix (stacked one_map two_variables)
@@ -108,7 +112,9 @@ span_from_all v h =
     InSpan-stacked_sum one_map two_variables positive refl v (record {
       first = record { degree = v.degree; terms = [] };
       second = v;
-      in_module = zero-inside (plain 101) positive (pos 0 ∷ []) (InSpan two_variables) (span_submodule two_variables positive variables-matrix) v.degree;
+      in_module =
+          zero-inside (plain 101) positive (pos 0 ∷ []) (InSpan two_variables)
+          (span_submodule two_variables positive variables-matrix) v.degree;
       in_span = InSpan-identity (plain 101) positive (omega arith) (pos 0 ∷ []) v h;
       first_degree = refl;
       second_degree = refl;
@@ -120,7 +126,8 @@ residue_field-image = record {
   generators_ring = refl;
   generators_target = refl;
   generators_minimal =
-      AreMinimal-same (plain 101) (pos 0 ∷ []) (IsAny (plain 101) (pos 0 ∷ [])) (InSpan (stacked one_map two_variables)) (InSpan two_variables) (InSpan two_variables)
+      AreMinimal-same (plain 101) (pos 0 ∷ []) (IsAny (plain 101) (pos 0 ∷ []))
+      (InSpan (stacked one_map two_variables)) (InSpan two_variables) (InSpan two_variables)
       span_from_all all_from_span (λ v k. k) (λ v k. k) one_map.rows koszul-cokernel.generators_minimal;
   relations_ring = refl;
   relations_target = refl;

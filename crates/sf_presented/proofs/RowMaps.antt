@@ -22,7 +22,8 @@ pub rows-InSpan : (m : Matrix) → IsRing m.ring → 1 < m.ring.modulus → IsMa
 rows-InSpan m positive above matrix =
     subst (λ (x : Matrix). AllByRecursion (InSpan m) x.rows) (matrix_product-identity_first m positive.modulus matrix)
     (AllByRecursion-map (InSpan m) (combined m) (unit_rows 0 (row_degrees m))
-    (AllByRecursion-weaken _ _ (λ c h. record { coefficients = c; homogeneous = h; value = refl }) (unit_rows 0 (row_degrees m)) (IsMatrix-identity m.ring above (row_degrees m))))
+    (AllByRecursion-weaken _ _ (λ c h. record { coefficients = c; homogeneous = h; value = refl })
+    (unit_rows 0 (row_degrees m)) (IsMatrix-identity m.ring above (row_degrees m))))
 
 -- a combination of rows whose images are in a module has its image there
 pub combination-image : (map : Matrix) → IsRing map.ring → (rows : Matrix) → map.ring ≡ rows.ring
@@ -34,14 +35,17 @@ combination-image map positive rows rings B b images v h =
     let inside : AllByRecursion B (with_terms (row_combination ring map.rows) rows.rows) =
     AllByRecursion-map B (combined map) rows.rows images in
     let homogeneous : IsHomogeneous ring.weights (row_degrees rows) c.degree c.terms =
-    subst (λ (q : Ring). IsHomogeneous q.weights (row_degrees rows) c.degree c.terms) (sym rings) h.homogeneous.homogeneous in
-    let same : row_combination ring (with_terms (row_combination ring map.rows) rows.rows) c.terms ≡ (combined map v).terms =
+    subst (λ (q : Ring). IsHomogeneous q.weights (row_degrees rows) c.degree c.terms)
+    (sym rings) h.homogeneous.homogeneous in
+    let same : row_combination ring (with_terms (row_combination ring map.rows) rows.rows) c.terms ≡
+    (combined map v).terms =
     row_combination-matrix_product ring positive.modulus (matrix_of ring rows.target rows.rows) map c.terms refl
     ∙ ap (λ q. row_combination ring map.rows (row_combination q rows.rows c.terms)) rings
     ∙ ap (λ (w : Vector). row_combination ring map.rows w.terms) h.value in
     subst B (λ i. record { degree = (h.value i).degree; terms = same i })
     (b.combinations (with_terms (row_combination ring map.rows) rows.rows) inside c.degree c.terms
-    (subst (λ ds. IsHomogeneous ring.weights ds c.degree c.terms) (sym (degrees-with_terms (row_combination ring map.rows) rows.rows)) homogeneous))
+    (subst (λ ds. IsHomogeneous ring.weights ds c.degree c.terms)
+    (sym (degrees-with_terms (row_combination ring map.rows) rows.rows)) homogeneous))
 
 module _ (source target map : Matrix) (positive : IsRing map.ring) (first : map.ring ≡ source.ring)
     (second : map.ring ≡ target.ring) where

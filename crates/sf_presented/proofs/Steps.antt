@@ -48,5 +48,8 @@ exact-next_steps before prime (step ∷ steps) h =
 pub exact-resolution : (relations : Matrix) → IsOverField relations.ring → IsMatrix relations → (steps : List Matrix)
     → IsResolution relations steps → AreExactOver relations steps
 exact-resolution relations prime matrix [] h = tt
-exact-resolution relations prime matrix (step ∷ steps) h =
-    (spans-first_step relations step prime matrix h.0, exact-next_steps step (subst IsOverField (sym h.0.ring) prime) steps h.1)
+exact-resolution relations prime matrix (step ∷ steps) h = (
+  spans-first_step relations step prime matrix h.0,
+  exact-next_steps step
+      (subst IsOverField (sym h.0.ring) prime) steps h.1,
+)
