@@ -1,0 +1,6 @@
+-- Matrices row by row: sums, and zeros.
+pub mod RowsByRows
+pub mod EntrySums
+pub mod SumGroups
+pub mod SumProducts
+pub mod SumTransposes

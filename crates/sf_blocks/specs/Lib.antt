@@ -1,0 +1,2 @@
+pub mod MatrixSums
+pub mod MatrixSumLaws

@@ -1,0 +1,9 @@
+//! Definitions and laws of matrices side by side, sums of matrices, and total complexes.
+//!
+//! The definitions are in `specs/`, the lemmas in `proofs/`. The functions here do nothing: the
+//! contract of each is a law of the definitions.
+#![tactic(auto)]
+
+mod sums;
+
+pub use sums::{matrix_sums, zero_matrices};
