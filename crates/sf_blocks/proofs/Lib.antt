@@ -1,1 +1,2 @@
 pub mod MatrixSums
+pub mod SideBySide

@@ -1,2 +1,4 @@
 pub mod MatrixSums
 pub mod MatrixSumLaws
+pub mod SideBySide
+pub mod SideBySideLaws

@@ -4,6 +4,8 @@
 //! contract of each is a law of the definitions.
 #![tactic(auto)]
 
+mod beside;
 mod sums;
 
+pub use beside::matrices_side_by_side;
 pub use sums::{matrix_sums, zero_matrices};

@@ -1,0 +1,6 @@
+-- Matrices side by side.
+pub mod PairEntries
+pub mod Beside
+pub mod BesideLaws
+pub mod BesideProducts
+pub mod BesideTransposes
