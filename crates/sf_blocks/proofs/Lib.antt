@@ -1,2 +1,3 @@
 pub mod MatrixSums
 pub mod SideBySide
+pub mod TwoByTwo

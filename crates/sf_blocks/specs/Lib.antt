@@ -2,3 +2,4 @@ pub mod MatrixSums
 pub mod MatrixSumLaws
 pub mod SideBySide
 pub mod SideBySideLaws
+pub mod BlockLaws

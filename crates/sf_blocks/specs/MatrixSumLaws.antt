@@ -6,7 +6,7 @@ use Rattle.sf_algebra.specs.MatrixOperations.{row_at, matrix_product, negated, p
 use Rattle.sf_algebra.specs.Polynomials.{polynomial_sum}
 use Rattle.sf_algebra.specs.Rings.{Ring}
 use Rattle.sf_algebra.specs.Vectors.{entry}
-use Rattle.sf_blocks.specs.MatrixSums.{AreParallel, matrix_sum, matrix_difference, zero_matrix}
+use Rattle.sf_blocks.specs.MatrixSums.{AreParallel, matrix_sum, matrix_difference, zero_matrix, IsZeroMatrix}
 
 -- a sum is a matrix between the same free modules
 abbrev pub HasMatrixSums : Type 0
@@ -82,11 +82,10 @@ HasZeroMatrices =
     (ring : Ring) (source target : List ℤ) → IsMatrix
     (zero_matrix ring source target) × (row_degrees (zero_matrix ring source target) ≡ source)
 
--- it has no entry but 0, and is the one such matrix
+-- a matrix is zero exactly where no entry is other than 0
 abbrev pub HasZeroEntries : Type 0
 HasZeroEntries =
-    (m : Matrix) → IsMatrix m → ((i j : ℕ) → entry j (row_at m.rows i) ≡ [])
-    ↔ (m ≡ zero_matrix m.ring (row_degrees m) m.target)
+    (m : Matrix) → IsMatrix m → ((i j : ℕ) → entry j (row_at m.rows i) ≡ []) ↔ IsZeroMatrix m
 
 -- zero times a matrix is zero
 abbrev pub TakesFirstZero : Type 0

@@ -37,3 +37,7 @@ zero_matrix ring source target = record {
   target = target;
   rows = map (λ (d : ℤ). record { degree = d; terms = [] }) source;
 }
+
+-- no entry of m is other than 0
+abbrev pub IsZeroMatrix : Matrix → Type 0
+IsZeroMatrix m = m ≡ zero_matrix m.ring (row_degrees m) m.target

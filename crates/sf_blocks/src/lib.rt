@@ -5,7 +5,9 @@
 #![tactic(auto)]
 
 mod beside;
+mod block;
 mod sums;
 
 pub use beside::matrices_side_by_side;
+pub use block::two_by_two_blocks;
 pub use sums::{matrix_sums, zero_matrices};
