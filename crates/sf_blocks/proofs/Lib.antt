@@ -1,3 +1,4 @@
 pub mod MatrixSums
 pub mod SideBySide
 pub mod TwoByTwo
+pub mod Totals

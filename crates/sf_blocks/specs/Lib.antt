@@ -3,3 +3,5 @@ pub mod MatrixSumLaws
 pub mod SideBySide
 pub mod SideBySideLaws
 pub mod BlockLaws
+pub mod TotalDifferentials
+pub mod TotalLaws

@@ -1,0 +1,3 @@
+-- Total differentials.
+pub mod TotalMatrices
+pub mod TotalSquares
