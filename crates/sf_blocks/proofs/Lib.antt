@@ -2,3 +2,4 @@ pub mod MatrixSums
 pub mod SideBySide
 pub mod TwoByTwo
 pub mod Totals
+pub mod Lists

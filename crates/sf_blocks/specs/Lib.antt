@@ -5,3 +5,5 @@ pub mod SideBySideLaws
 pub mod BlockLaws
 pub mod TotalDifferentials
 pub mod TotalLaws
+pub mod BlockLists
+pub mod BlockListLaws
