@@ -3,3 +3,4 @@ pub mod SideBySide
 pub mod TwoByTwo
 pub mod Totals
 pub mod Lists
+pub mod Kroneckers

@@ -7,3 +7,4 @@ pub mod TotalDifferentials
 pub mod TotalLaws
 pub mod BlockLists
 pub mod BlockListLaws
+pub mod KroneckerSumLaws

@@ -6,12 +6,14 @@
 
 mod beside;
 mod block;
+mod factors;
 mod list;
 mod sums;
 mod total;
 
 pub use beside::matrices_side_by_side;
 pub use block::two_by_two_blocks;
+pub use factors::sums_of_kronecker_products;
 pub use list::lists_of_blocks;
 pub use sums::{matrix_sums, zero_matrices};
 pub use total::total_differentials;

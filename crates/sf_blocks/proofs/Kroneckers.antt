@@ -1,0 +1,3 @@
+-- Kronecker products of sums, of zeros and of matrices side by side.
+pub mod PairedFactors
+pub mod FactorSums
