@@ -4,3 +4,4 @@ pub mod TwoByTwo
 pub mod Totals
 pub mod Lists
 pub mod Kroneckers
+pub mod DirectSums

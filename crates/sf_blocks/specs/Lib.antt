@@ -8,3 +8,5 @@ pub mod TotalLaws
 pub mod BlockLists
 pub mod BlockListLaws
 pub mod KroneckerSumLaws
+pub mod DirectSums
+pub mod DirectSumLaws

@@ -6,6 +6,7 @@
 
 mod beside;
 mod block;
+mod direct_sum;
 mod factors;
 mod list;
 mod sums;
@@ -13,6 +14,7 @@ mod total;
 
 pub use beside::matrices_side_by_side;
 pub use block::two_by_two_blocks;
+pub use direct_sum::direct_sums;
 pub use factors::sums_of_kronecker_products;
 pub use list::lists_of_blocks;
 pub use sums::{matrix_sums, zero_matrices};

@@ -1,0 +1,3 @@
+-- Direct sums of relations, and what is zero modulo them.
+pub mod SummandSpans
+pub mod ZeroModulo
