@@ -3,10 +3,11 @@ pub mod MatrixSumLaws
 pub mod SideBySide
 pub mod SideBySideLaws
 pub mod BlockLaws
-pub mod TotalDifferentials
-pub mod TotalLaws
 pub mod BlockLists
 pub mod BlockListLaws
 pub mod KroneckerSumLaws
 pub mod DirectSums
 pub mod DirectSumLaws
+pub mod TotalDifferentials
+pub mod TotalRelations
+pub mod TotalLaws
