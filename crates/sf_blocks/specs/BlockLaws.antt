@@ -63,16 +63,25 @@ AddsStacks =
     (a b c d : Matrix) → a.ring ≡ b.ring → AreParallel a c
     → matrix_sum (stacked a b) (stacked c d) ≡ stacked (matrix_sum a c) (matrix_sum b d)
 
+-- a triangle is a matrix, from the two sources together to the two targets together
+abbrev pub HasTriangles : Type 0
+HasTriangles =
+    (a l b : Matrix) → AreTriangle a l b → IsMatrix a → IsMatrix l → IsMatrix b
+    → IsMatrix (triangle a l b) × (row_degrees (triangle a l b) ≡ row_degrees a ++ row_degrees l)
+
 -- the product of two triangles is a triangle
 abbrev pub MultipliesTriangles : Type 0
 MultipliesTriangles =
-    (a l b c m d : Matrix) → AreTriangle a l b → AreTriangle c m d → IsComposable a c → IsComposable b d → IsMatrix a → IsMatrix l → IsMatrix b → IsMatrix c → IsMatrix m → IsMatrix d
+    (a l b c m d : Matrix) → AreTriangle a l b → AreTriangle c m d → IsComposable a c → IsComposable b d → IsMatrix a
+    → IsMatrix l → IsMatrix b → IsMatrix c → IsMatrix m → IsMatrix d
     → matrix_product (triangle a l b) (triangle c m d)
     ≡ triangle (matrix_product a c) (matrix_sum (matrix_product l c) (matrix_product b m)) (matrix_product b d)
 
 -- so it is zero exactly where the products on the diagonal are, and the two paths below it cancel
 abbrev pub HasZeroTriangles : Type 0
 HasZeroTriangles =
-    (a l b c m d : Matrix) → AreTriangle a l b → AreTriangle c m d → IsComposable a c → IsComposable b d → IsMatrix a → IsMatrix l → IsMatrix b → IsMatrix c → IsMatrix m → IsMatrix d
+    (a l b c m d : Matrix) → AreTriangle a l b → AreTriangle c m d → IsComposable a c → IsComposable b d → IsMatrix a
+    → IsMatrix l → IsMatrix b → IsMatrix c → IsMatrix m → IsMatrix d
     → IsZeroMatrix (matrix_product (triangle a l b) (triangle c m d))
-    ↔ (IsZeroMatrix (matrix_product a c) × (IsZeroMatrix (matrix_sum (matrix_product l c) (matrix_product b m)) × IsZeroMatrix (matrix_product b d)))
+    ↔ (IsZeroMatrix (matrix_product a c)
+    × (IsZeroMatrix (matrix_sum (matrix_product l c) (matrix_product b m)) × IsZeroMatrix (matrix_product b d)))

@@ -7,7 +7,8 @@ use Rattle.sf_algebra.specs.VectorOperations.{row_sum, row_difference}
 use Rattle.sf_algebra.specs.Vectors.{Place, Vector}
 
 -- vectors of the degrees of the first list, the terms of each made of those of the two at its position
-abbrev pub row_by_row : (List (Term Place) → List (Term Place) → List (Term Place)) → List Vector → List Vector → List Vector
+abbrev pub row_by_row : (List (Term Place) → List (Term Place) → List (Term Place)) → List Vector → List Vector
+    → List Vector
 row_by_row f [] vs = []
 row_by_row f (u ∷ us) [] = []
 row_by_row f (u ∷ us) (v ∷ vs) = record { degree = u.degree; terms = f u.terms v.terms } ∷ row_by_row f us vs

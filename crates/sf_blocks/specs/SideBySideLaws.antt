@@ -1,5 +1,5 @@
 -- What holds of graded matrices side by side. (Any textbook of linear algebra.)
-use Rattle.std.specs.Prelude.{◌≡◌, ℕ, ◌+◌, ◌<◌, ◌≤◌, ◌++◌, length, List, ℤ}
+use Rattle.std.specs.Prelude.{◌≡◌, ℕ, ◌+◌, ◌<◌, ◌≤◌, ◌++◌, length, List, [], ℤ}
 use Rattle.sf_algebra.specs.Matrices.{Matrix, row_degrees, IsMatrix}
 use Rattle.sf_algebra.specs.MatrixOperations.{row_at, row_combination, moved, matrix_product, negated, part, stacked, transposed, IsComposable}
 use Rattle.sf_algebra.specs.Rings.{Ring}
@@ -47,6 +47,10 @@ JoinsParts =
 abbrev pub JoinsAssociatively : Type 0
 JoinsAssociatively =
     (a b c : Matrix) → AreBeside a b → AreBeside b c → beside (beside a b) c ≡ beside a (beside b c)
+
+-- a matrix without columns may be left out
+abbrev pub LeavesOutNoColumns : Type 0
+LeavesOutNoColumns = (m : Matrix) → beside m (zero_matrix m.ring (row_degrees m) []) ≡ m
 
 -- zeros side by side are a zero
 abbrev pub JoinsZeros : Type 0

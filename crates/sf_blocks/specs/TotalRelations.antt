@@ -32,7 +32,8 @@ abbrev pub HasLawsModuloAt : Spot → Spot → List Spot → List Matrix → Typ
 HasLawsModuloAt s t [] rs = IsZeroModuloFirst rs (matrix_product s.vertical t.vertical)
 HasLawsModuloAt s t (u ∷ us) rs =
     IsZeroModuloFirst rs (matrix_product s.vertical t.vertical)
-    × (IsZeroModuloFirst (drop 1 rs) (matrix_sum (matrix_product s.vertical t.horizontal) (matrix_product s.horizontal u.vertical))
+    × (IsZeroModuloFirst (drop 1 rs)
+    (matrix_sum (matrix_product s.vertical t.horizontal) (matrix_product s.horizontal u.vertical))
     × IsZeroModuloFirst (drop 2 rs) (matrix_product s.horizontal u.horizontal))
 
 -- they hold from each spot of a diagonal

@@ -1,4 +1,4 @@
-ghost use Rattle.sf_blocks.specs.SideBySideLaws.{HasMatricesBeside, HasFirstEntries, HasLastEntries, HasFirstColumns, HasLastColumns, JoinsParts, JoinsAssociatively, JoinsZeros, NegatesBeside, AddsBeside, StacksBeside, CombinesBeside, MultipliesBeside, MultipliesByStack, TransposesBeside, TransposesStacks};
+ghost use Rattle.sf_blocks.specs.SideBySideLaws.{HasMatricesBeside, HasFirstEntries, HasLastEntries, HasFirstColumns, HasLastColumns, JoinsParts, JoinsAssociatively, LeavesOutNoColumns, JoinsZeros, NegatesBeside, AddsBeside, StacksBeside, CombinesBeside, MultipliesBeside, MultipliesByStack, TransposesBeside, TransposesStacks};
 
 /// The rows of one matrix, each with the row of another at its position behind it.
 pub fn matrices_side_by_side()
@@ -9,6 +9,7 @@ pub fn matrices_side_by_side()
     ensures last_columns { HasLastColumns }
     ensures parts { JoinsParts }
     ensures associative { JoinsAssociatively }
+    ensures no_columns { LeavesOutNoColumns }
     ensures zeros { JoinsZeros }
     ensures negatives { NegatesBeside }
     ensures sums { AddsBeside }

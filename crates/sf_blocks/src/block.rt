@@ -1,4 +1,4 @@
-ghost use Rattle.sf_blocks.specs.BlockLaws.{HasBlockMatrices, HasBlockRows, MultipliesBlocks, AddsBlocks, NegatesBlocks, TransposesBlocks, HasZerosBeside, HasZeroStacks, AddsStacks, MultipliesTriangles, HasZeroTriangles};
+ghost use Rattle.sf_blocks.specs.BlockLaws.{HasBlockMatrices, HasBlockRows, MultipliesBlocks, AddsBlocks, NegatesBlocks, TransposesBlocks, HasZerosBeside, HasZeroStacks, AddsStacks, HasTriangles, MultipliesTriangles, HasZeroTriangles};
 
 /// Matrices of two by two blocks; those whose upper right block is zero are triangles.
 pub fn two_by_two_blocks()
@@ -11,6 +11,7 @@ pub fn two_by_two_blocks()
     ensures zeros_beside { HasZerosBeside }
     ensures zero_stacks { HasZeroStacks }
     ensures stacked_sums { AddsStacks }
-    ensures triangles { MultipliesTriangles }
+    ensures triangles { HasTriangles }
+    ensures triangle_products { MultipliesTriangles }
     ensures zero_triangles { HasZeroTriangles }
 {}

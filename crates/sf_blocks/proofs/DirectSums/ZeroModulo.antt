@@ -17,7 +17,9 @@ use Rattle.sf_blocks.proofs.DirectSums.SummandSpans.{InSpan-direct_sum, InSpan-s
 
 -- what follows for the rows of two lists from what is known of the rows made of both
 made_of_both : (f : List (Term Place) → List (Term Place) → List (Term Place)) (A B P Q R : Vector → Type 0)
-    → ((d : ℤ) (us vs : List (Term Place)) → A (record { degree = d; terms = us }) → B (record { degree = d; terms = vs }) → R (record { degree = d; terms = f us vs }) ↔ (P (record { degree = d; terms = us }) × Q (record { degree = d; terms = vs })))
+    → ((d : ℤ) (us vs : List (Term Place)) → A (record { degree = d; terms = us })
+    → B (record { degree = d; terms = vs }) → R (record { degree = d; terms = f us vs })
+    ↔ (P (record { degree = d; terms = us }) × Q (record { degree = d; terms = vs })))
     → (us vs : List Vector) → degrees_of us ≡ degrees_of vs → AllByRecursion A us → AllByRecursion B vs
     → AllByRecursion R (row_by_row f us vs) ↔ (AllByRecursion P us × AllByRecursion Q vs)
 made_of_both f A B P Q R parts [] [] e h k = (λ all. (tt, tt), λ all. tt)
@@ -26,22 +28,39 @@ made_of_both f A B P Q R parts (u ∷ us) [] e h k = cc
 made_of_both f A B P Q R parts (u ∷ us) (v ∷ vs) e h k =
     let same : u.degree ≡ v.degree = cc in
     let others : degrees_of us ≡ degrees_of vs = cc in
-    let first = parts u.degree u.terms v.terms h.0 (subst (λ d. B (record { degree = d; terms = v.terms })) (sym same) k.0) in
+    let first = parts u.degree u.terms v.terms h.0
+    (subst (λ d. B (record { degree = d; terms = v.terms })) (sym same) k.0) in
     let rest = made_of_both f A B P Q R parts us vs others h.1 k.1 in (
-      λ all. (((first.0 all.0).0, (rest.0 all.1).0), (subst (λ d. Q (record { degree = d; terms = v.terms })) same (first.0 all.0).1, (rest.0 all.1).1)),
-      λ all. (first.1 (all.0.0, subst (λ d. Q (record { degree = d; terms = v.terms })) (sym same) all.1.0), rest.1 (all.0.1, all.1.1)),
+      λ all. (
+        ((first.0 all.0).0, (rest.0 all.1).0),
+        (subst (λ d. Q (record { degree = d; terms = v.terms })) same (first.0 all.0).1, (rest.0 all.1).1),
+      ),
+      λ all. (
+        first.1 (all.0.0, subst (λ d. Q (record { degree = d; terms = v.terms })) (sym same) all.1.0),
+        rest.1
+            (all.0.1, all.1.1),
+      ),
     )
 
 pub IsZeroModulo-beside : (r q a b : Matrix) → IsRing a.ring → AreBeside a b → AreRelations r a → AreRelations q b
     → IsMatrix a → IsMatrix b
     → IsZeroModulo (direct_sum r q) (beside a b) ↔ (IsZeroModulo r a × IsZeroModulo q b)
 IsZeroModulo-beside r q a b is_ring h x y ma mb =
-    subst (λ ds. AllByRecursion (InSpan (direct_sum r q)) (row_by_row (λ us vs. us ++ moved (length ds) vs) a.rows b.rows) ↔ (IsZeroModulo r a × IsZeroModulo q b)) x.targets
-    (made_of_both (λ us vs. us ++ moved (length r.target) vs) (IsVector r.ring r.target) (IsVector r.ring q.target) (InSpan r) (InSpan q) (InSpan (direct_sum r q))
-    (λ d us vs hu hv. (InSpan-summands r q ring_r rings x.matrix y.matrix d us vs hu hv, λ both. InSpan-direct_sum r q ring_r rings x.matrix y.matrix d us vs hu hv both.0 both.1))
+    subst (λ ds. AllByRecursion (InSpan (direct_sum r q))
+    (row_by_row (λ us vs. us ++ moved (length ds) vs) a.rows b.rows) ↔ (IsZeroModulo r a × IsZeroModulo q b)) x.targets
+    (made_of_both (λ us vs. us ++ moved (length r.target) vs) (IsVector r.ring r.target) (IsVector r.ring q.target)
+    (InSpan r) (InSpan q) (InSpan (direct_sum r q))
+    (λ d us vs hu hv. (
+      InSpan-summands r q ring_r rings x.matrix y.matrix d us vs hu hv,
+      λ both. InSpan-direct_sum r q
+          ring_r rings x.matrix y.matrix d us vs hu hv both.0 both.1,
+    ))
     a.rows b.rows h.degrees
-    (subst (λ p. AllByRecursion (IsVector p r.target) a.rows) (sym x.rings) (subst (λ ds. AllByRecursion (IsVector a.ring ds) a.rows) (sym x.targets) ma))
-    (subst (λ p. AllByRecursion (IsVector p q.target) b.rows) (sym rings) (subst (λ ds. AllByRecursion (IsVector q.ring ds) b.rows) (sym y.targets) (subst (λ p. AllByRecursion (IsVector p b.target) b.rows) (sym y.rings) mb))))
+    (subst (λ p. AllByRecursion (IsVector p r.target) a.rows) (sym x.rings)
+    (subst (λ ds. AllByRecursion (IsVector a.ring ds) a.rows) (sym x.targets) ma))
+    (subst (λ p. AllByRecursion (IsVector p q.target) b.rows) (sym rings)
+    (subst (λ ds. AllByRecursion (IsVector q.ring ds) b.rows) (sym y.targets)
+    (subst (λ p. AllByRecursion (IsVector p b.target) b.rows) (sym y.rings) mb))))
   where
     ring_r : IsRing r.ring
     ring_r = subst IsRing (sym x.rings) is_ring

@@ -39,7 +39,9 @@ degrees-kronecker_row ring n m u v (w ∷ ws) (x ∷ xs) same e =
 
 module _ (ring : Ring) (n : ℕ) (f g : List (Term Place) → List (Term Place) → List (Term Place)) where
   -- where the terms of the first factor are made of two, what a product is made of
-  module _ (P Q : Vector → Type 0) (made : (u v w : Vector) → P u → Q w → kronecker_terms ring n (f u.terms v.terms) w.terms ≡ g (kronecker_terms ring n u.terms w.terms) (kronecker_terms ring n v.terms w.terms)) where
+  module _ (P Q : Vector → Type 0)
+      (made : (u v w : Vector) → P u → Q w → kronecker_terms ring n (f u.terms v.terms) w.terms
+      ≡ g (kronecker_terms ring n u.terms w.terms) (kronecker_terms ring n v.terms w.terms)) where
     kronecker_row-pair : (u v : Vector) → P u → u.degree ≡ v.degree → (ws : List Vector) → AllByRecursion Q ws
         → kronecker_row ring n (record { degree = u.degree; terms = f u.terms v.terms }) ws
         ≡ row_by_row g (kronecker_row ring n u ws) (kronecker_row ring n v ws)
@@ -58,10 +60,12 @@ module _ (ring : Ring) (n : ℕ) (f g : List (Term Place) → List (Term Place) 
         let same : u.degree ≡ v.degree = cc in
         let others : degrees_of us ≡ degrees_of vs = cc in
         (λ i. kronecker_row-pair u v h.0 same ws k i ++ kronecker_rows-pairs us vs ws others h.1 k i)
-        ∙ sym (row_by_row-append g (kronecker_row ring n u ws) (kronecker_row ring n v ws) (kronecker_rows ring n us ws) (kronecker_rows ring n vs ws) (degrees-kronecker_row ring n n u v ws ws same refl))
+        ∙ sym (row_by_row-append g (kronecker_row ring n u ws) (kronecker_row ring n v ws)
+        (kronecker_rows ring n us ws) (kronecker_rows ring n vs ws) (degrees-kronecker_row ring n n u v ws ws same refl))
 
   -- and those of the second
-  module _ (m : ℕ) (made : (u v w : Vector) → kronecker_terms ring n w.terms (f u.terms v.terms) ≡ g (kronecker_terms ring n w.terms u.terms) (kronecker_terms ring m w.terms v.terms)) where
+  module _ (m : ℕ) (made : (u v w : Vector) → kronecker_terms ring n w.terms (f u.terms v.terms)
+      ≡ g (kronecker_terms ring n w.terms u.terms) (kronecker_terms ring m w.terms v.terms)) where
     kronecker_row-pairs_second : (w : Vector) (us vs : List Vector)
         → kronecker_row ring n w (row_by_row f us vs)
         ≡ row_by_row g (kronecker_row ring n w us) (kronecker_row ring m w vs)
@@ -76,7 +80,8 @@ module _ (ring : Ring) (n : ℕ) (f g : List (Term Place) → List (Term Place) 
     kronecker_rows-pairs_second [] us vs e = refl
     kronecker_rows-pairs_second (w ∷ ws) us vs e =
         (λ i. kronecker_row-pairs_second w us vs i ++ kronecker_rows-pairs_second ws us vs e i)
-        ∙ sym (row_by_row-append g (kronecker_row ring n w us) (kronecker_row ring m w vs) (kronecker_rows ring n ws us) (kronecker_rows ring m ws vs) (degrees-kronecker_row ring n m w w us vs refl e))
+        ∙ sym (row_by_row-append g (kronecker_row ring n w us) (kronecker_row ring m w vs)
+        (kronecker_rows ring n ws us) (kronecker_rows ring m ws vs) (degrees-kronecker_row ring n m w w us vs refl e))
 
 moved_term-additive : (p by : ℕ) (g : Term Place → ℕ) → IsAdditive p g → IsAdditive p (λ t. g (moved_term by t))
 moved_term-additive p by g additive = record {
@@ -96,8 +101,10 @@ module _ (ring : Ring) (positive : 0 < ring.modulus) where
       total-map ring.modulus g (moved_term by) (row_sum ring us vs)
       ∙ total-add (place_cmp ring.weights) (place_cmp_linear ring.weights) ring.modulus (λ t. g (moved_term by t))
       (moved_term-additive ring.modulus by g additive) us vs
-      ∙ (λ i. sum_mod ring.modulus (sym (total-map ring.modulus g (moved_term by) us) i) (sym (total-map ring.modulus g (moved_term by) vs) i))
-      ∙ sym (total-add (place_cmp ring.weights) (place_cmp_linear ring.weights) ring.modulus g additive (moved by us) (moved by vs)))
+      ∙ (λ i. sum_mod ring.modulus (sym (total-map ring.modulus g (moved_term by) us) i)
+      (sym (total-map ring.modulus g (moved_term by) vs) i))
+      ∙ sym (total-add (place_cmp ring.weights) (place_cmp_linear ring.weights) ring.modulus g additive (moved by us)
+      (moved by vs)))
 
   module _ (n : ℕ) where
     pub kronecker_terms-sum_first : (us vs ws : List (Term Place))
@@ -111,7 +118,8 @@ module _ (ring : Ring) (positive : 0 < ring.modulus) where
         → kronecker_terms ring n ws (row_sum ring us vs)
         ≡ row_sum ring (kronecker_terms ring n ws us) (kronecker_terms ring n ws vs)
     kronecker_terms-sum_second ws us vs =
-        (λ i. combination (place_cmp ring.weights) place_product ring.modulus (λ (k : Place). k.monomial) (λ (k : Place). moved-row_sum (k.position * n) us vs i) ws)
+        (λ i. combination (place_cmp ring.weights) place_product ring.modulus (λ (k : Place). k.monomial)
+        (λ (k : Place). moved-row_sum (k.position * n) us vs i) ws)
         ∙ combination-add_rows (place_keys ring.weights) ring.modulus positive (λ k. k.monomial)
         (λ k. moved (k.position * n) us) (λ k. moved (k.position * n) vs) ws
 
@@ -125,9 +133,11 @@ module _ (ring : Ring) (positive : 0 < ring.modulus) where
         (λ g additive.
         total-kronecker_terms ring n positive g additive (moved by vs) ws
         ∙ total-map ring.modulus _ (moved_term by) vs
-        ∙ total-same ring.modulus _ _ vs (λ t. ap (λ m. m % ring.modulus) (total-same ring.modulus _ _ ws (λ u. ap (λ s. g s % ring.modulus) (terms t u))))
+        ∙ total-same ring.modulus _ _ vs
+        (λ t. ap (λ m. m % ring.modulus) (total-same ring.modulus _ _ ws (λ u. ap (λ s. g s % ring.modulus) (terms t u))))
         ∙ sym (total-map ring.modulus g (moved_term (by * n)) (kronecker_terms ring n vs ws)
-        ∙ total-kronecker_terms ring n positive (λ t. g (moved_term (by * n) t)) (moved_term-additive ring.modulus (by * n) g additive) vs ws))
+        ∙ total-kronecker_terms ring n positive (λ t. g (moved_term (by * n) t))
+        (moved_term-additive ring.modulus (by * n) g additive) vs ws))
       where
         terms : (t u : Term Place)
             → kronecker_term ring.modulus n (moved_term by t) u
@@ -135,7 +145,13 @@ module _ (ring : Ring) (positive : 0 < ring.modulus) where
         terms t u =
             let place : (by + t.at.position) * n + u.at.position ≡ by * n + (t.at.position * n + u.at.position) =
             omega arith in
-            ap (λ k. record { at = record { position = k; monomial = (kronecker_term ring.modulus n t u).at.monomial }; coefficient = (kronecker_term ring.modulus n t u).coefficient }) place
+            ap (λ k. record {
+              at = record {
+                position = k;
+                monomial = (kronecker_term ring.modulus n t u).at.monomial;
+              };
+              coefficient = (kronecker_term ring.modulus n t u).coefficient;
+            }) place
 
     -- a vector with another one behind it, as the first factor
     pub kronecker_terms-pair : (k : ℕ) (us vs ws : List (Term Place))
@@ -149,4 +165,5 @@ module _ (ring : Ring) (positive : 0 < ring.modulus) where
         ∙ ap (row_sum ring (kronecker_terms ring n us ws)) (kronecker_terms-moved k vs ws)
         ∙ normal-canonical (place_cmp ring.weights) (place_cmp_linear ring.weights) ring.modulus positive
         (kronecker_terms ring n us ws ++ moved (k * n) (kronecker_terms ring n vs ws))
-        (IsCanonical-pair ring (k * n) (kronecker_terms ring n us ws) (kronecker_terms ring n vs ws) within (IsCanonical-kronecker_terms ring n positive us ws) (IsCanonical-kronecker_terms ring n positive vs ws))
+        (IsCanonical-pair ring (k * n) (kronecker_terms ring n us ws) (kronecker_terms ring n vs ws)
+        within (IsCanonical-kronecker_terms ring n positive us ws) (IsCanonical-kronecker_terms ring n positive vs ws))

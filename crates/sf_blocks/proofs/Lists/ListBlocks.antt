@@ -19,7 +19,8 @@ AreBeside-from ring source a b h k = record {
 }
 
 module _ (ring : Ring) (source : List ℤ) where
-  pub IsFrom-side_by_side : (ms : List Matrix) → AreFromOne ring source ms → IsFrom ring source (side_by_side ring source ms)
+  pub IsFrom-side_by_side : (ms : List Matrix) → AreFromOne ring source ms
+      → IsFrom ring source (side_by_side ring source ms)
   IsFrom-side_by_side [] h = record {
     ring_of = refl;
     source_of = row_degrees-zero_matrix ring source [];

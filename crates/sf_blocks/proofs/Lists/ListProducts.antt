@@ -54,7 +54,12 @@ matrix_product-side_by_side ring source m [] positive h k =
     ∙ (λ i. zero_matrix (h.ring_of i) (h.source_of i) [])
 matrix_product-side_by_side ring source m (n ∷ ns) positive h k =
     matrix_product-beside m n (side_by_side ring m.target ns)
-    (record { positive = subst (λ (q : Ring). 0 < q.modulus) (sym h.ring_of) positive; rings = h.ring_of ∙ sym k.0.ring_of; degrees = k.0.source_of })
+    (record {
+      positive = subst (λ (q : Ring). 0 < q.modulus) (sym h.ring_of) positive;
+      rings = h.ring_of
+          ∙ sym k.0.ring_of;
+      degrees = k.0.source_of;
+    })
     (AreBeside-side_by_side ring m.target n ns k) h.matrix k.0.matrix (IsFrom-side_by_side ring m.target ns k.1).matrix
     ∙ ap (beside (matrix_product m n)) (matrix_product-side_by_side ring source m ns positive h k.1)
 

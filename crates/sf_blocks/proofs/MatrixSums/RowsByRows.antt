@@ -20,7 +20,8 @@ pub length-degrees : (us vs : List Vector) → degrees_of us ≡ degrees_of vs �
 length-degrees [] [] e = refl
 length-degrees [] (v ∷ vs) e = cc
 length-degrees (u ∷ us) [] e = cc
-length-degrees (u ∷ us) (v ∷ vs) e = let others : degrees_of us ≡ degrees_of vs = cc in ap suc (length-degrees us vs others)
+length-degrees (u ∷ us) (v ∷ vs) e = let others : degrees_of us
+    ≡ degrees_of vs = cc in ap suc (length-degrees us vs others)
 
 module _ (f : List (Term Place) → List (Term Place) → List (Term Place)) where
   pub degrees-row_by_row : (us vs : List Vector) → degrees_of us ≡ degrees_of vs
@@ -51,7 +52,8 @@ module _ (f : List (Term Place) → List (Term Place) → List (Term Place)) whe
 
   -- what follows for each row from what is known of the two that it is made of, which have one degree
   pub AllByRecursion-row_by_row : (P Q R : Vector → Type 0)
-      → ((d : ℤ) (us vs : List (Term Place)) → P (record { degree = d; terms = us }) → Q (record { degree = d; terms = vs }) → R (record { degree = d; terms = f us vs }))
+      → ((d : ℤ) (us vs : List (Term Place)) → P (record { degree = d; terms = us })
+      → Q (record { degree = d; terms = vs }) → R (record { degree = d; terms = f us vs }))
       → (us vs : List Vector) → degrees_of us ≡ degrees_of vs → AllByRecursion P us → AllByRecursion Q vs
       → AllByRecursion R (row_by_row f us vs)
   AllByRecursion-row_by_row P Q R made [] vs e h k = tt

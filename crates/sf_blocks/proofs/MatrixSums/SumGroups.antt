@@ -106,7 +106,8 @@ pub matrix_sum-assoc : (a b c : Matrix) → 0 < a.ring.modulus → AreParallel a
 matrix_sum-assoc a b c positive h k =
     let ab = matrix_sum a b in
     let bc = matrix_sum b c in
-    let first : AreParallel ab c = AreParallel-trans ab a c (AreParallel-matrix_sum a b h) (AreParallel-trans a b c h k) in
+    let first : AreParallel ab c = AreParallel-trans ab a c (AreParallel-matrix_sum a b h)
+    (AreParallel-trans a b c h k) in
     let last : AreParallel a bc = AreParallel-trans a b bc h (AreParallel-sym bc b (AreParallel-matrix_sum b c k)) in
     same_by_rows (matrix_sum ab c) (matrix_sum a bc) refl refl
     (row_degrees-matrix_sum ab c first ∙ row_degrees-matrix_sum a b h ∙ sym (row_degrees-matrix_sum a bc last))
@@ -179,23 +180,31 @@ module _ (m : Matrix) (positive : 0 < m.ring.modulus) (is_matrix : IsMatrix m) w
 
   pub matrix_sum-negated : matrix_sum m (negated m) ≡ zero_matrix m.ring (row_degrees m) m.target
   matrix_sum-negated =
-      let h : AreParallel m (negated m) = record { rings = refl; targets = refl; degrees = sym (row_degrees-negated m) } in
+      let h : AreParallel m (negated m) = record
+      { rings = refl; targets = refl; degrees = sym (row_degrees-negated m) } in
       let s = matrix_sum m (negated m) in
       same_zero s (λ i.
       row_at-matrix_sum m (negated m) h i
       ∙ ap (row_sum m.ring (row_at m.rows i)) (row_at-negated m i)
-      ∙ add-negative (place_keys m.ring.weights) m.ring.modulus positive (row_at m.rows i) (IsCanonical-matrix_row m.ring m.target m.rows is_matrix i))
+      ∙ add-negative (place_keys m.ring.weights) m.ring.modulus positive (row_at m.rows i)
+      (IsCanonical-matrix_row m.ring m.target m.rows is_matrix i))
       ∙ ap (λ ds. zero_matrix m.ring ds m.target) (row_degrees-matrix_sum m (negated m) h)
 
 -- row by row, a difference is a sum with negatives
 pub matrix_difference-sum : (a b : Matrix) → a.ring ≡ b.ring → matrix_difference a b ≡ matrix_sum a (negated b)
 matrix_difference-sum a b rings =
     (λ i. record { ring = a.ring; target = a.target; rows = go a.rows b.rows i })
-    ∙ ap (λ (q : Ring). record { ring = a.ring; target = a.target; rows = row_by_row (row_sum a.ring) a.rows (map (λ (v : Vector). record { degree = v.degree; terms = negative q.modulus v.terms }) b.rows) }) rings
+    ∙ ap (λ (q : Ring). record {
+      ring = a.ring;
+      target = a.target;
+      rows = row_by_row (row_sum a.ring) a.rows
+          (map (λ (v : Vector). record { degree = v.degree; terms = negative q.modulus v.terms }) b.rows);
+    }) rings
   where
     go : (us vs : List Vector)
         → row_by_row (row_difference a.ring) us vs
-        ≡ row_by_row (row_sum a.ring) us (map (λ (v : Vector). record { degree = v.degree; terms = negative a.ring.modulus v.terms }) vs)
+        ≡ row_by_row (row_sum a.ring) us
+        (map (λ (v : Vector). record { degree = v.degree; terms = negative a.ring.modulus v.terms }) vs)
     go [] vs = refl
     go (u ∷ us) [] = refl
     go (u ∷ us) (v ∷ vs) =

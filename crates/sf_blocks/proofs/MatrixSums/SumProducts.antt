@@ -46,7 +46,8 @@ matrix_product-sum_first a b c positive h =
     row_at-matrix_product ring positive s c i refl
     ∙ ap (row_combination ring c.rows) (row_at-matrix_sum a b h i)
     ∙ row_combination-add ring positive c.rows (row_at a.rows i) (row_at b.rows i)
-    ∙ (λ l. row_sum ring (sym (row_at-matrix_product ring positive a c i refl) l) (sym (row_at-matrix_product ring positive b c i (sym h.rings)) l))
+    ∙ (λ l. row_sum ring (sym (row_at-matrix_product ring positive a c i refl) l)
+    (sym (row_at-matrix_product ring positive b c i (sym h.rings)) l))
     ∙ sym (row_at-matrix_sum (matrix_product a c) (matrix_product b c) k i))
 
 pub matrix_product-sum_second : (a b c : Matrix) → 0 < a.ring.modulus → a.ring ≡ b.ring → AreParallel b c
@@ -61,8 +62,10 @@ matrix_product-sum_second a b c positive rings h =
     (λ i.
     row_at-matrix_product ring positive a s i refl
     ∙ row_combination-add_rows ring positive s.rows b.rows c.rows
-    (λ l. row_at-matrix_sum b c h l ∙ ap (λ q. row_sum q (row_at b.rows l) (row_at c.rows l)) (sym rings)) (row_at a.rows i)
-    ∙ (λ l. row_sum ring (sym (row_at-matrix_product ring positive a b i refl) l) (sym (row_at-matrix_product ring positive a c i refl) l))
+    (λ l. row_at-matrix_sum b c h l ∙ ap (λ q. row_sum q (row_at b.rows l) (row_at c.rows l)) (sym rings))
+    (row_at a.rows i)
+    ∙ (λ l. row_sum ring (sym (row_at-matrix_product ring positive a b i refl) l)
+    (sym (row_at-matrix_product ring positive a c i refl) l))
     ∙ sym (row_at-matrix_sum (matrix_product a b) (matrix_product a c) k i))
 
 -- combinations of rows without terms

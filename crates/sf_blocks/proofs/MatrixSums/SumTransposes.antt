@@ -59,8 +59,10 @@ module _ (a b : Matrix) (positive : 0 < a.ring.modulus) (h : AreParallel a b) (k
         let pa = part r0 r1 c0 c1 a in
         let pb = part r0 r1 c0 c1 b in
         let q = AreParallel-part in
-        let none : (i j : ℕ) → entry j (row_at pa.rows i) ≡ [] → entry j (row_at pb.rows i) ≡ [] → entry j (row_at (matrix_sum pa pb).rows i) ≡ [] =
-        λ i j x y. entry-matrix_sum pa pb q positive i j ∙ (λ n. polynomial_sum a.ring (x n) (y n)) ∙ polynomial_sum-none a.ring in
+        let none : (i j : ℕ) → entry j (row_at pa.rows i) ≡ [] → entry j (row_at pb.rows i) ≡ []
+        → entry j (row_at (matrix_sum pa pb).rows i) ≡ [] =
+        λ i j x y. entry-matrix_sum pa pb q positive i j ∙ (λ n. polynomial_sum a.ring (x n) (y n))
+        ∙ polynomial_sum-none a.ring in
         same_matrices (part r0 r1 c0 c1 s) (matrix_sum pa pb) (IsMatrix-part r0 r1 c0 c1 s m)
         (IsMatrix-matrix_sum pa pb q positive (IsMatrix-part r0 r1 c0 c1 a k) (IsMatrix-part r0 r1 c0 c1 b l)) refl refl
         (row_degrees-part r0 r1 c0 c1 s
@@ -71,10 +73,12 @@ module _ (a b : Matrix) (positive : 0 < a.ring.modulus) (h : AreParallel a b) (k
             | inl column ↦
                 entry-part r0 r1 c0 c1 s i j row column
                 ∙ entry-matrix_sum a b h positive (r0 + i) (c0 + j)
-                ∙ (λ n. polynomial_sum a.ring (sym (entry-part r0 r1 c0 c1 a i j row column) n) (sym (entry-part r0 r1 c0 c1 b i j row column) n))
+                ∙ (λ n. polynomial_sum a.ring (sym (entry-part r0 r1 c0 c1 a i j row column) n)
+                (sym (entry-part r0 r1 c0 c1 b i j row column) n))
                 ∙ sym (entry-matrix_sum pa pb q positive i j)
             | inr past ↦ entry-part_past_column r0 r1 c0 c1 s i j past
-                ∙ sym (none i j (entry-part_past_column r0 r1 c0 c1 a i j past) (entry-part_past_column r0 r1 c0 c1 b i j past))
+                ∙ sym (none i j (entry-part_past_column r0 r1 c0 c1 a i j past)
+                (entry-part_past_column r0 r1 c0 c1 b i j past))
           ]
           | inr past ↦ entry-part_past_row r0 r1 c0 c1 s i j past
               ∙ sym (none i j (entry-part_past_row r0 r1 c0 c1 a i j past) (entry-part_past_row r0 r1 c0 c1 b i j past))

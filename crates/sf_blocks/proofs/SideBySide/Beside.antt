@@ -71,7 +71,8 @@ module _ (a b : Matrix) (h : AreBeside a b) where
         (λ i.
         row_at-columns (length a.rows) 0 (length a.target) m all i
         ∙ ap (part_terms 0 (length a.target)) (row_at-beside i)
-        ∙ part_terms-pair_first (length a.target) (row_at a.rows i) (row_at b.rows i) (IsWithin-matrix_row a.ring a.target a.rows k i))
+        ∙ part_terms-pair_first (length a.target) (row_at a.rows i) (row_at b.rows i)
+        (IsWithin-matrix_row a.ring a.target a.rows k i))
 
     pub part-beside_last : part 0 (length a.rows) (length a.target) (length a.target + length b.target) (beside a b) ≡ b
     part-beside_last =
@@ -85,7 +86,8 @@ module _ (a b : Matrix) (h : AreBeside a b) where
         (λ i.
         row_at-columns (length a.rows) n (n + length b.target) m all i
         ∙ ap (part_terms n (n + length b.target)) (row_at-beside i)
-        ∙ part_terms-pair_last n (length b.target) (row_at a.rows i) (row_at b.rows i) (IsWithin-matrix_row a.ring a.target a.rows k i) (IsWithin-matrix_row b.ring b.target b.rows l i))
+        ∙ part_terms-pair_last n (length b.target) (row_at a.rows i) (row_at b.rows i)
+        (IsWithin-matrix_row a.ring a.target a.rows k i) (IsWithin-matrix_row b.ring b.target b.rows l i))
 
     -- a matrix with the entries of both
     pub same_beside : (m : Matrix) → IsMatrix m → m.ring ≡ a.ring → m.target ≡ a.target ++ b.target

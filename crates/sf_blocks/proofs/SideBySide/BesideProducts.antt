@@ -35,7 +35,8 @@ module _ (a b c : Matrix) (k : IsComposable a b) (h : AreBeside b c) where
   matrix_product-beside ma mb mc =
       let ring = a.ring in
       let m = beside b c in
-      let row : (x : Matrix) (i j : ℕ) → entry j (row_at (matrix_product a x).rows i) ≡ entry j (row_combination ring x.rows (row_at a.rows i)) =
+      let row : (x : Matrix) (i j : ℕ) → entry j (row_at (matrix_product a x).rows i)
+      ≡ entry j (row_combination ring x.rows (row_at a.rows i)) =
       λ x i j. ap (entry j) (row_at-matrix_product ring k.positive a x i refl) in
       same_beside (matrix_product a b) (matrix_product a c) AreBeside-products (IsMatrix-matrix_product a b k ma mb)
       (IsMatrix-matrix_product a c IsComposable-second ma mc) (matrix_product a m)
@@ -43,11 +44,13 @@ module _ (a b c : Matrix) (k : IsComposable a b) (h : AreBeside b c) where
       (row_degrees-matrix_product a m ∙ sym (row_degrees-matrix_product a b))
       (λ i j before.
       row m i j
-      ∙ entry-row_combination_same ring k.positive m.rows b.rows j j (λ l. entry-beside_first b c h l j before) (row_at a.rows i)
+      ∙ entry-row_combination_same ring k.positive m.rows b.rows j j (λ l. entry-beside_first b c h l j before)
+      (row_at a.rows i)
       ∙ sym (row b i j))
       (λ i j.
       row m i (length b.target + j)
-      ∙ entry-row_combination_same ring k.positive m.rows c.rows (length b.target + j) j (λ l. entry-beside_last b c h mb l j) (row_at a.rows i)
+      ∙ entry-row_combination_same ring k.positive m.rows c.rows (length b.target + j) j
+      (λ l. entry-beside_last b c h mb l j) (row_at a.rows i)
       ∙ sym (row c i j))
 
 -- a combination of the rows of two side by side
@@ -61,7 +64,8 @@ row_combination-beside a b positive h ma mb c vector =
     (matrix_product-beside m a b (record { positive = positive; rings = refl; degrees = refl }) h (vector, tt) ma mb)
 
 -- two side by side times a stack
-module _ (a b c d : Matrix) (h : AreBeside a b) (x : IsComposable a c) (y : IsComposable b d) (targets : c.target ≡ d.target) where
+module _ (a b c d : Matrix) (h : AreBeside a b) (x : IsComposable a c) (y : IsComposable b d)
+    (targets : c.target ≡ d.target) where
   pub AreParallel-products : AreParallel (matrix_product a c) (matrix_product b d)
   AreParallel-products = record {
     rings = h.rings;
@@ -75,16 +79,19 @@ module _ (a b c d : Matrix) (h : AreBeside a b) (x : IsComposable a c) (y : IsCo
       let ring = a.ring in
       let m = beside a b in
       let s = stacked c d in
-      let size : length a.target ≡ length c.rows = ap length (sym x.degrees) ∙ length-map c.rows (λ (v : Vector). v.degree) in
+      let size : length a.target ≡ length c.rows = ap length (sym x.degrees)
+      ∙ length-map c.rows (λ (v : Vector). v.degree) in
       same_by_rows (matrix_product m s) (matrix_sum (matrix_product a c) (matrix_product b d)) refl refl
       (row_degrees-matrix_product m s
       ∙ row_degrees-beside a b h
-      ∙ sym (row_degrees-matrix_sum (matrix_product a c) (matrix_product b d) AreParallel-products ∙ row_degrees-matrix_product a c))
+      ∙ sym (row_degrees-matrix_sum (matrix_product a c) (matrix_product b d) AreParallel-products
+      ∙ row_degrees-matrix_product a c))
       (λ i.
       row_at-matrix_product ring x.positive m s i refl
       ∙ ap (row_combination ring s.rows) (row_at-beside a b h i)
       ∙ ap (λ n. row_combination ring s.rows (row_at a.rows i ++ moved n (row_at b.rows i))) size
       ∙ row_combination-stacked ring x.positive c.rows d.rows (row_at a.rows i) (row_at b.rows i)
       (subst (λ n. StandsWithin n (row_at a.rows i)) size (IsWithin-matrix_row ring a.target a.rows ma i))
-      ∙ (λ l. row_sum ring (sym (row_at-matrix_product ring x.positive a c i refl) l) (sym (row_at-matrix_product ring x.positive b d i (sym h.rings)) l))
+      ∙ (λ l. row_sum ring (sym (row_at-matrix_product ring x.positive a c i refl) l)
+      (sym (row_at-matrix_product ring x.positive b d i (sym h.rings)) l))
       ∙ sym (row_at-matrix_sum (matrix_product a c) (matrix_product b d) AreParallel-products i))

@@ -38,7 +38,8 @@ transposed-beside a b h k l =
           let place : length ta.rows + (i - n) ≡ i = omega arith in
           ap (λ e. entry e (row_at m.rows j)) (sym same)
           ∙ entry-beside_last a b h k j (i - n)
-          ∙ sym (ap (λ e. entry j (row_at (stacked ta tb).rows e)) (sym place) ∙ ap (entry j) (row_at-append_second ta.rows tb.rows (i - n)) ∙ entry-transposed b l j (i - n))
+          ∙ sym (ap (λ e. entry j (row_at (stacked ta tb).rows e)) (sym place)
+          ∙ ap (entry j) (row_at-append_second ta.rows tb.rows (i - n)) ∙ entry-transposed b l j (i - n))
     ])
 
 pub AreBeside-transposed : (a b : Matrix) → a.ring ≡ b.ring → a.target ≡ b.target

@@ -37,18 +37,21 @@ module _ (n j : ℕ) (us vs : List (Term Place)) where
 
 pub moved-append : (n : ℕ) (us vs : List (Term Place)) → moved n (us ++ vs) ≡ moved n us ++ moved n vs
 moved-append n us vs =
-    map-append (λ (t : Term Place). record { at = record { position = n + t.at.position; monomial = t.at.monomial }; coefficient = t.coefficient }) us vs
+    map-append (λ (t : Term Place). record
+    { at = record { position = n + t.at.position; monomial = t.at.monomial }; coefficient = t.coefficient }) us vs
 
 pub moved-moved : (m n : ℕ) (ts : List (Term Place)) → moved m (moved n ts) ≡ moved (m + n) ts
 moved-moved m n [] = refl
 moved-moved m n (t ∷ ts) =
     let same : m + (n + t.at.position) ≡ (m + n) + t.at.position = omega arith in
-    λ i. record { at = record { position = same i; monomial = t.at.monomial }; coefficient = t.coefficient } ∷ moved-moved m n ts i
+    λ i. record { at = record { position = same i; monomial = t.at.monomial }; coefficient = t.coefficient } ∷
+    moved-moved m n ts i
 
 pub negative-moved : (p n : ℕ) (ts : List (Term Place)) → negative p (moved n ts) ≡ moved n (negative p ts)
 negative-moved p n [] = refl
 negative-moved p n (t ∷ ts) =
-    ap (λ us. negative_term p (record { at = record { position = n + t.at.position; monomial = t.at.monomial }; coefficient = t.coefficient }) ∷ us)
+    ap (λ us. negative_term p (record
+    { at = record { position = n + t.at.position; monomial = t.at.monomial }; coefficient = t.coefficient }) ∷ us)
     (negative-moved p n ts)
 
 -- combinations of rows that have equal entries at two positions
@@ -57,5 +60,6 @@ pub entry-row_combination_same : (ring : Ring) → 0 < ring.modulus → (rows ot
     → entry j (row_combination ring rows c) ≡ entry l (row_combination ring others c)
 entry-row_combination_same ring positive rows others j l same c =
     entry-combination ring positive j (λ (k : Place). k.monomial) (λ (k : Place). row_at rows k.position) c
-    ∙ (λ i. combination (monomial_cmp ring.weights) product ring.modulus (λ (k : Place). k.monomial) (λ (k : Place). same k.position i) c)
+    ∙ (λ i. combination (monomial_cmp ring.weights) product ring.modulus (λ (k : Place). k.monomial)
+    (λ (k : Place). same k.position i) c)
     ∙ sym (entry-combination ring positive l (λ (k : Place). k.monomial) (λ (k : Place). row_at others k.position) c)

@@ -15,8 +15,7 @@ use Rattle.sf_blocks.proofs.DirectSums.ZeroModulo.{IsZeroModulo-beside, IsZeroMo
 use Rattle.sf_blocks.proofs.MatrixSums.SumGroups.{IsMatrix-zero_matrix}
 use Rattle.sf_blocks.proofs.Totals.TotalMatrices.{total, drop-first_target, drop-second_target}
 use Rattle.sf_blocks.proofs.Totals.TotalProducts.{IsOfBlocks, IsPair, IsZeroMatrix-no_columns, corner, product_blocks, target-corner, corner-none, corner_pairs}
-use Rattle.sf_blocks.proofs.TwoByTwo.Blocks.{IsMatrix-blocks}
-use Rattle.sf_blocks.proofs.TwoByTwo.Triangles.{AreBlocks-triangle}
+use Rattle.sf_blocks.proofs.TwoByTwo.Triangles.{IsMatrix-triangle}
 
 pub IsTo-total_relations : (ring : Ring) (ss : List Spot) (rs : List Matrix) → AreRelationsBelow ring ss rs
     → IsTo ring (total_target ss) (total_relations ring rs)
@@ -32,10 +31,8 @@ IsTo-total_relations ring (s ∷ ss) (r ∷ rs) h =
       ring_of = h.0.ring_of;
       target_of = λ i. h.0.target_of i ++ others.target_of i;
       matrix =
-          IsMatrix-blocks r (zero_matrix r.ring (row_degrees r) b.target) z b
-          (AreBlocks-triangle r z b (AreTriangle-direct_sum r b rings)) h.0.matrix
-          (IsMatrix-zero_matrix r.ring (row_degrees r) b.target) (IsMatrix-zero_matrix r.ring (row_degrees b) r.target)
-          others.matrix;
+          IsMatrix-triangle r z b (AreTriangle-direct_sum r b rings) h.0.matrix
+          (IsMatrix-zero_matrix r.ring (row_degrees b) r.target) others.matrix;
     }
 
 -- relations to where a matrix goes
@@ -65,7 +62,10 @@ module _ (r q : Matrix) where
       let stack = IsZeroModulo-stacked (direct_sum r q) (beside a b) (beside c d) in
       let upper = IsZeroModulo-beside r q a b is_ring h.upper x y h.first h.second in
       let lower = IsZeroModulo-beside r q c d is_ring_c h.lower z w h.third h.fourth in (
-        λ all. let both = stack.0 (subst (IsZeroModulo (direct_sum r q)) h.same all) in ((upper.0 both.0).0, ((upper.0 both.0).1, (lower.0 both.1).1)),
+        λ all. let both = stack.0 (subst (IsZeroModulo (direct_sum r q)) h.same all) in (
+          (upper.0 both.0).0,
+          ((upper.0 both.0).1, (lower.0 both.1).1),
+        ),
         λ all. subst (IsZeroModulo (direct_sum r q)) (sym h.same)
             (stack.1 (upper.1 (all.0, all.1.0), lower.1 (IsZeroModulo-zero r c is_ring_r zero, all.1.1))),
       )
@@ -77,7 +77,8 @@ module _ (ring : Ring) (is_ring : IsRing ring) where
       (below : row_degrees t.vertical ≡ s.vertical.target) (others : AreBelow (l ∷ ss) (u ∷ ts)) (r : Matrix)
       → AreRelationsBelow ring (t ∷ u ∷ ts) (r ∷ rs)
       → (IsZeroModulo r (matrix_product s.vertical t.vertical)
-      × IsZeroModulo (total_relations ring rs) (corner ring is_ring.modulus s t (l ∷ ss) (u ∷ ts) hs ht dss dts below others))
+      × IsZeroModulo (total_relations ring rs)
+      (corner ring is_ring.modulus s t (l ∷ ss) (u ∷ ts) hs ht dss dts below others))
       ↔ HasLawsModuloAt s t (u ∷ ts) (r ∷ rs)
   corner_modulo s t l u ss ts [] hs ht dss dts below others r k = absurd k.1
   corner_modulo s t l u ss [] (q ∷ []) hs ht dss dts below others r k =
@@ -86,7 +87,8 @@ module _ (ring : Ring) (is_ring : IsRing ring) where
       let empty : IsTo ring [] none = record { ring_of = refl; target_of = refl; matrix = tt } in
       let h_ring = sym hs.together.rings ∙ hs.ring_of in
       let to_u = drop-first_target [] u.horizontal.target dts.0.left_of in
-      let pair = pair_modulo q none _ _ _ p.0 (subst IsRing (sym hs.ring_of) is_ring) (relations ring u.vertical.target q _ k.1.0 hs.ring_of ht.left_of) (relations ring [] none _ empty h_ring to_u) in (
+      let pair = pair_modulo q none _ _ _ p.0 (subst IsRing (sym hs.ring_of) is_ring)
+      (relations ring u.vertical.target q _ k.1.0 hs.ring_of ht.left_of) (relations ring [] none _ empty h_ring to_u) in (
         λ h. (h.0, ((pair.0 h.1).0, tt)),
         λ h. (h.0, pair.1 (h.1.0, IsZeroModulo-zero none _ is_ring (IsZeroMatrix-no_columns _ p.0.last to_u))),
       )
@@ -101,13 +103,25 @@ module _ (ring : Ring) (is_ring : IsRing ring) where
       let to_u = drop-first_target (w ∷ ts) u.horizontal.target dts.0.left_of in
       let behind = drop-second_target w ts u.horizontal.target dts.0.left_of in
       let is_ring_h = subst IsRing (sym h_ring) is_ring in
-      let pair = pair_modulo q (total_relations ring (g ∷ rs)) _ _ _ p.0 (subst IsRing (sym hs.ring_of) is_ring) (relations ring u.vertical.target q _ k.1.0 hs.ring_of ht.left_of) (relations ring (total_target (w ∷ ts)) (total_relations ring (g ∷ rs)) _ to_both h_ring to_u) in
-      let last = pair_modulo g after _ _ _ p.1.0 is_ring_h (relations ring w.vertical.target g _ k.1.1.0 h_ring dts.0.left_of) (relations ring (total_target ts) after _ to_after h_ring behind) in (
+      let pair = pair_modulo q (total_relations ring (g ∷ rs)) _ _ _ p.0 (subst IsRing (sym hs.ring_of) is_ring)
+      (relations ring u.vertical.target q _ k.1.0 hs.ring_of ht.left_of)
+      (relations ring (total_target (w ∷ ts)) (total_relations ring (g ∷ rs)) _ to_both h_ring to_u) in
+      let last = pair_modulo g after _ _ _ p.1.0 is_ring_h
+      (relations ring w.vertical.target g _ k.1.1.0 h_ring dts.0.left_of)
+      (relations ring (total_target ts) after _ to_after h_ring behind) in (
         λ h. let both = pair.0 h.1 in (h.0, (both.0, (last.0 both.1).0)),
-        λ h. (h.0, pair.1 (h.1.0, last.1 (h.1.1, IsZeroModulo-zero after _ (subst IsRing (sym to_after.ring_of) is_ring) p.1.1))),
+        λ h. (
+          h.0,
+          pair.1 (
+            h.1.0,
+            last.1
+                (h.1.1, IsZeroModulo-zero after _ (subst IsRing (sym to_after.ring_of) is_ring) p.1.1),
+          ),
+        ),
       )
 
-  laws_modulo : (s t : Spot) (ss ts : List Spot) (hs : IsSpot ring (first_target ss) s) (ht : IsSpot ring (first_target ts) t)
+  laws_modulo : (s t : Spot) (ss ts : List Spot) (hs : IsSpot ring (first_target ss) s)
+      (ht : IsSpot ring (first_target ts) t)
       (dss : AreDiagonal ring ss) (dts : AreDiagonal ring ts) (below : row_degrees t.vertical ≡ s.vertical.target)
       (others : AreBelow ss ts) (r : Matrix) (rs : List Matrix) → AreRelationsBelow ring (t ∷ ts) (r ∷ rs)
       → (IsZeroModulo r (matrix_product s.vertical t.vertical)
@@ -115,7 +129,11 @@ module _ (ring : Ring) (is_ring : IsRing ring) where
       ↔ HasLawsModuloAt s t ts (r ∷ rs)
   laws_modulo s t [] [] hs ht dss dts below others r [] k = (
     λ h. h.0,
-    λ h. (h, IsZeroModulo-zero (zero_matrix ring [] []) _ is_ring (corner-none ring is_ring.modulus s t [] [] hs ht dss dts below others refl)),
+    λ h. (
+      h,
+      IsZeroModulo-zero (zero_matrix ring [] []) _ is_ring
+          (corner-none ring is_ring.modulus s t [] [] hs ht dss dts below others refl),
+    ),
   )
   laws_modulo s t [] [] hs ht dss dts below others r (q ∷ rs) k = absurd k.1
   laws_modulo s t [] (u ∷ ts) hs ht dss dts below others r rs k = absurd others
@@ -138,7 +156,12 @@ module _ (ring : Ring) (is_ring : IsRing ring) where
       let first = total ring ss dss.1 in
       let second = total ring ts dts.1 in
       let ring_s = dss.0.ring_of in
-      let parts = blocks_modulo r others _ _ _ _ _ p.0 (subst IsRing (sym ring_s) is_ring) (relations ring t.vertical.target r _ k.0 ring_s refl) (relations ring (total_target ts) others _ to_others ring_s (target-corner ring is_ring.modulus s t ss ts dss.0 dts.0 dss.1 dts.1 below.0 below.1)) (relations ring t.vertical.target r _ k.0 refl refl) (relations ring (total_target ts) others _ to_others first.ring_of second.target) p.1 in
+      let parts = blocks_modulo r others _ _ _ _ _ p.0 (subst IsRing (sym ring_s) is_ring)
+      (relations ring t.vertical.target r _ k.0 ring_s refl)
+      (relations ring (total_target ts) others _ to_others ring_s
+      (target-corner ring is_ring.modulus s t ss ts dss.0 dts.0 dss.1 dts.1 below.0 below.1))
+      (relations ring t.vertical.target r _ k.0 refl refl)
+      (relations ring (total_target ts) others _ to_others first.ring_of second.target) p.1 in
       let here = laws_modulo s t ss ts dss.0 dts.0 dss.1 dts.1 below.0 below.1 r rs k in
       let rest = squares-total_modulo ss ts rs dss.1 dts.1 below.1 k.1 in (
         λ h. let all = parts.0 h in (here.0 (all.0, all.1.0), rest.0 all.1.1),

@@ -53,7 +53,8 @@ pub record IsTotal (ring : Ring) (ss : List Spot) : Type 0 where
 
 -- with one more spot in front
 module _ (ring : Ring) (s : Spot) (ss : List Spot) (h : IsSpot ring (first_target ss) s) (k : IsTotal ring ss) where
-  pub AreBlocks-total : AreBlocks s.vertical (widened (total_target ss) s.horizontal) (zero_matrix ring (total_source ss) s.vertical.target) (total_differential ring ss)
+  pub AreBlocks-total : AreBlocks s.vertical (widened (total_target ss) s.horizontal)
+      (zero_matrix ring (total_source ss) s.vertical.target) (total_differential ring ss)
   AreBlocks-total = record {
     upper = record {
       rings = h.together.rings;

@@ -25,7 +25,8 @@ module _ (ring : Ring) (positive : 0 < ring.modulus) where
   laws_at : (s t : Spot) (ss ts : List Spot) (hs : IsSpot ring (first_target ss) s) (ht : IsSpot ring (first_target ts) t)
       (dss : AreDiagonal ring ss) (dts : AreDiagonal ring ts) (below : row_degrees t.vertical ≡ s.vertical.target)
       (others : AreBelow ss ts)
-      → (IsZeroMatrix (matrix_product s.vertical t.vertical) × IsZeroMatrix (corner ring positive s t ss ts hs ht dss dts below others)) ↔ HasLawsAt s t ts
+      → (IsZeroMatrix (matrix_product s.vertical t.vertical)
+      × IsZeroMatrix (corner ring positive s t ss ts hs ht dss dts below others)) ↔ HasLawsAt s t ts
   laws_at s t [] [] hs ht dss dts below others =
       (λ h. h.0, λ h. (h, corner-none ring positive s t [] [] hs ht dss dts below others refl))
   laws_at s t [] (u ∷ ts) hs ht dss dts below others = absurd others

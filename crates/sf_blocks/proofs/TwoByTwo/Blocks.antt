@@ -47,19 +47,24 @@ module _ (a b c d : Matrix) (h : AreBlocks a b c d) where
         (λ i. part 0 (sym (length-beside a b h.upper) i) 0 (sym (length-append a.target b.target) i) (blocks a b c d))
         ∙ part-stacked_first m (beside c d) (IsMatrix-beside a b h.upper ma mb)
 
-    pub part-blocks_last : part (length a.rows) (length a.rows + length c.rows) 0 (length c.target + length d.target) (blocks a b c d)
+    pub part-blocks_last : part (length a.rows) (length a.rows + length c.rows) 0 (length c.target + length d.target)
+        (blocks a b c d)
         ≡ beside c d
     part-blocks_last =
-        (λ i. part (sym (length-beside a b h.upper) i) (sym (length-beside a b h.upper) i + sym (length-beside c d h.lower) i) 0 (sym (length-append c.target d.target) i) (blocks a b c d))
+        (λ i. part (sym (length-beside a b h.upper) i)
+        (sym (length-beside a b h.upper) i + sym (length-beside c d h.lower) i) 0
+        (sym (length-append c.target d.target) i) (blocks a b c d))
         ∙ part-stacked_second (beside a b) (beside c d) h.rings targets-blocks (IsMatrix-beside c d h.lower mc md)
 
-    pub transposed-blocks : transposed (blocks a b c d) ≡ blocks (transposed a) (transposed c) (transposed b) (transposed d)
+    pub transposed-blocks : transposed (blocks a b c d)
+        ≡ blocks (transposed a) (transposed c) (transposed b) (transposed d)
     transposed-blocks =
         let ta = transposed a in
         let tb = transposed b in
         let tc = transposed c in
         let td = transposed d in
-        transposed-stacked (beside a b) (beside c d) h.rings targets-blocks (IsMatrix-beside a b h.upper ma mb) (IsMatrix-beside c d h.lower mc md)
+        transposed-stacked (beside a b) (beside c d) h.rings targets-blocks (IsMatrix-beside a b h.upper ma mb)
+        (IsMatrix-beside c d h.lower mc md)
         ∙ (λ i. beside (transposed-beside a b h.upper ma mb i) (transposed-beside c d h.lower mc md i))
         ∙ sym (stacked-beside ta tc tb td (ap (map neg_ℤ) h.upper.degrees) (AreBeside-transposed a c h.rings h.left))
 
@@ -70,5 +75,7 @@ pub matrix_sum-blocks : (a b c d e f g h : Matrix) → 0 < a.ring.modulus → Ar
     ≡ blocks (matrix_sum a e) (matrix_sum b f) (matrix_sum c g) (matrix_sum d h)
 matrix_sum-blocks a b c d e f g h positive k x y z w ma mb mc md me mf mg mh =
     let second : 0 < c.ring.modulus = subst (λ (q : Ring). 0 < q.modulus) k.rings positive in
-    matrix_sum-stacked (beside a b) (beside c d) (beside e f) (beside g h) k.rings (AreParallel-beside a b e f positive k.upper x y)
-    ∙ (λ i. stacked (matrix_sum-beside a b e f positive k.upper x y ma mb me mf i) (matrix_sum-beside c d g h second k.lower z w mc md mg mh i))
+    matrix_sum-stacked (beside a b) (beside c d) (beside e f) (beside g h) k.rings
+    (AreParallel-beside a b e f positive k.upper x y)
+    ∙ (λ i. stacked (matrix_sum-beside a b e f positive k.upper x y ma mb me mf i)
+    (matrix_sum-beside c d g h second k.lower z w mc md mg mh i))

@@ -26,16 +26,12 @@ pub IsZeroMatrix-zero_matrix : (ring : Ring) (source target : List ℤ) → IsZe
 IsZeroMatrix-zero_matrix ring source target =
     same_zero (zero_matrix ring source target) (row_at-zero_matrix ring source target)
 
--- zeros between the same free modules
-pub same_zeros : (a b : Matrix) → AreParallel a b → IsZeroMatrix a → IsZeroMatrix b → a ≡ b
-same_zeros a b h k l =
-    same_by_rows a b h.rings h.targets h.degrees (λ i. row_at-zero a k i ∙ sym (row_at-zero b l i))
-
 module _ (a b : Matrix) (h : AreParallel a b) where
   pub IsZeroMatrix-sum : IsZeroMatrix a → IsZeroMatrix b → IsZeroMatrix (matrix_sum a b)
   IsZeroMatrix-sum k l =
       same_zero (matrix_sum a b)
-      (λ i. row_at-matrix_sum a b h i ∙ (λ n. row_sum a.ring (row_at-zero a k i n) (row_at-zero b l i n)) ∙ row_sum-none a.ring)
+      (λ i. row_at-matrix_sum a b h i ∙ (λ n. row_sum a.ring (row_at-zero a k i n) (row_at-zero b l i n))
+      ∙ row_sum-none a.ring)
 
   module _ (positive : 0 < a.ring.modulus) where
     pub matrix_sum-zero_second : IsMatrix a → IsZeroMatrix b → matrix_sum a b ≡ a
@@ -52,7 +48,8 @@ module _ (a b : Matrix) (h : AreParallel a b) where
         (λ i.
         row_at-matrix_sum a b h i
         ∙ ap (λ ts. row_sum a.ring ts (row_at b.rows i)) (row_at-zero a l i)
-        ∙ row_sum-nil_first a.ring positive (row_at b.rows i) (IsCanonical-matrix_row a.ring a.target b.rows (IsMatrix-parallel a b h k) i))
+        ∙ row_sum-nil_first a.ring positive (row_at b.rows i)
+        (IsCanonical-matrix_row a.ring a.target b.rows (IsMatrix-parallel a b h k) i))
 
 module _ (a b : Matrix) (positive : 0 < a.ring.modulus) where
   pub IsZeroMatrix-product_first : IsZeroMatrix a → IsZeroMatrix (matrix_product a b)
@@ -81,10 +78,11 @@ no_terms_moved n (u ∷ us) vs e = cc
 
 pub IsZeroMatrix-beside : (a b : Matrix) → AreBeside a b → IsZeroMatrix (beside a b) ↔ (IsZeroMatrix a × IsZeroMatrix b)
 IsZeroMatrix-beside a b h = (
-  λ z. let none : (i : ℕ) → row_at a.rows i ++ moved (length a.target) (row_at b.rows i) ≡ [] = λ i. sym (row_at-beside a b h i) ∙ row_at-zero (beside a b) z i in (
-    same_zero a (λ i. no_terms_first (row_at a.rows i) (moved (length a.target) (row_at b.rows i)) (none i)),
-    same_zero b (λ i. no_terms_moved (length a.target) (row_at a.rows i) (row_at b.rows i) (none i)),
-  ),
+  λ z. let none : (i : ℕ) → row_at a.rows i ++ moved (length a.target) (row_at b.rows i)
+      ≡ [] = λ i. sym (row_at-beside a b h i) ∙ row_at-zero (beside a b) z i in (
+        same_zero a (λ i. no_terms_first (row_at a.rows i) (moved (length a.target) (row_at b.rows i)) (none i)),
+        same_zero b (λ i. no_terms_moved (length a.target) (row_at a.rows i) (row_at b.rows i) (none i)),
+      ),
   λ z. same_zero (beside a b)
       (λ i. row_at-beside a b h i ∙ (λ n. row_at-zero a z.0 i n ++ moved (length a.target) (row_at-zero b z.1 i n))),
 )

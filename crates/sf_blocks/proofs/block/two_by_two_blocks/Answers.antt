@@ -1,6 +1,6 @@
 use Rattle.sf_blocks.proofs.TwoByTwo.BlockProducts.{matrix_product-blocks}
 use Rattle.sf_blocks.proofs.TwoByTwo.Blocks.{IsMatrix-blocks, row_degrees-blocks, part-blocks_first, part-blocks_last, matrix_sum-blocks, negated-blocks, transposed-blocks, matrix_sum-stacked}
-use Rattle.sf_blocks.proofs.TwoByTwo.Triangles.{matrix_product-triangles, IsZeroMatrix-triangles}
+use Rattle.sf_blocks.proofs.TwoByTwo.Triangles.{IsMatrix-triangle, row_degrees-triangle, matrix_product-triangles, IsZeroMatrix-triangles}
 use Rattle.sf_blocks.proofs.TwoByTwo.ZeroParts.{IsZeroMatrix-beside, IsZeroMatrix-stacked}
 use Rattle.sf_blocks.proofs.block.two_by_two_blocks.Goals as goal
 
@@ -15,6 +15,7 @@ returns c = record {
   zeros_beside = IsZeroMatrix-beside;
   zero_stacks = IsZeroMatrix-stacked;
   stacked_sums = matrix_sum-stacked;
-  triangles = matrix_product-triangles;
+  triangles = λ a l b h ma ml mb. (IsMatrix-triangle a l b h ma ml mb, row_degrees-triangle a l b h);
+  triangle_products = matrix_product-triangles;
   zero_triangles = IsZeroMatrix-triangles;
 }
