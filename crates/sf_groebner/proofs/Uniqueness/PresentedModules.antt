@@ -14,7 +14,7 @@ use Rattle.sf_groebner.proofs.Uniqueness.MinimalGenerators.{AreMinimal-same}
 
 module _ (ring : Ring) (target : List ℤ) (N B : Vector → Type 0) where
   -- what holds of each vector holds of those kept
-  AllByRecursion-kept : (earlier vs kept : List Vector) → AllByRecursion N vs → AreKept ring B earlier vs kept
+  pub AllByRecursion-kept : (earlier vs kept : List Vector) → AllByRecursion N vs → AreKept ring B earlier vs kept
       → AllByRecursion N kept
   AllByRecursion-kept earlier [] kept h k = subst (AllByRecursion N) (sym k) tt
   AllByRecursion-kept earlier (v ∷ vs) kept h (inl k) = AllByRecursion-kept (earlier ++ v ∷ []) vs kept h.1 k.1

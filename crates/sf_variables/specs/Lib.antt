@@ -1,0 +1,7 @@
+pub mod Variables
+pub mod MonomialLaws
+pub mod RowLaws
+pub mod MatrixLaws
+pub mod BasisLaws
+pub mod LiftLaws
+pub mod PresentationLaws
