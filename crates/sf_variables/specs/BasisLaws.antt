@@ -14,23 +14,28 @@ use Rattle.sf_variables.specs.Variables.{AreInVariables, IsMatrixInVariables}
 -- the basis of the graph
 abbrev pub HasGraphBasisInVariables : Type 0
 HasGraphBasisInVariables =
-    (n : ℕ) (m : Matrix) → IsRing m.ring → IsMatrixInVariables n m → (basis : List Vector) → IsGraphBasis m basis → AreInVariables n basis
+    (n : ℕ) (m : Matrix) → IsRing m.ring → IsMatrixInVariables n m → (basis : List Vector)
+    → IsGraphBasis m basis → AreInVariables n basis
 
 -- that of the span
 abbrev pub HasSpanBasisInVariables : Type 0
 HasSpanBasisInVariables =
-    (n : ℕ) (m : Matrix) → IsRing m.ring → IsMatrixInVariables n m → (basis : List Vector) → IsSpanBasis m basis → AreInVariables n basis
+    (n : ℕ) (m : Matrix) → IsRing m.ring → IsMatrixInVariables n m → (basis : List Vector) → IsSpanBasis m basis
+    → AreInVariables n basis
 
 -- that of the syzygies
 abbrev pub HasSyzygyBasisInVariables : Type 0
 HasSyzygyBasisInVariables =
-    (n : ℕ) (m : Matrix) → IsRing m.ring → IsMatrixInVariables n m → (basis : List Vector) → IsSyzygyBasis m basis → AreInVariables n basis
+    (n : ℕ) (m : Matrix) → IsRing m.ring → IsMatrixInVariables n m → (basis : List Vector)
+    → IsSyzygyBasis m basis → AreInVariables n basis
 
 -- that of the relations modulo a span
 abbrev pub HasRelationBasisInVariables : Type 0
 HasRelationBasisInVariables =
-    (n : ℕ) (m base : Matrix) → IsRing m.ring → base.ring ≡ m.ring → IsMatrixInVariables n m → IsMatrixInVariables n base
-    → (basis : List Vector) → IsReducedBasis m.ring.weights (IsRelation m (InSpan base)) basis → AreInVariables n basis
+    (n : ℕ) (m base : Matrix) → IsRing m.ring → base.ring ≡ m.ring → IsMatrixInVariables n m
+    → IsMatrixInVariables n base
+    → (basis : List Vector) → IsReducedBasis m.ring.weights (IsRelation m (InSpan base)) basis
+    → AreInVariables n basis
 
 -- that of the first blocks of the syzygies of a stack
 abbrev pub HasFirstBlockBasisInVariables : Type 0
@@ -53,5 +58,7 @@ HasMinimalSyzygiesInVariables =
 -- those of the relations modulo a span, modulo 0
 abbrev pub HasMinimalRelationsInVariables : Type 0
 HasMinimalRelationsInVariables =
-    (n : ℕ) (m base : Matrix) → IsRing m.ring → base.ring ≡ m.ring → IsMatrixInVariables n m → IsMatrixInVariables n base
-    → (generators : List Vector) → AreMinimal m.ring (IsRelation m (InSpan base)) IsZero generators → AreInVariables n generators
+    (n : ℕ) (m base : Matrix) → IsRing m.ring → base.ring ≡ m.ring → IsMatrixInVariables n m
+    → IsMatrixInVariables n base
+    → (generators : List Vector) → AreMinimal m.ring (IsRelation m (InSpan base)) IsZero generators
+    → AreInVariables n generators

@@ -15,25 +15,29 @@ use Rattle.sf_variables.specs.Variables.{IsMatrixInVariables, IsVectorInVariable
 -- a lift
 abbrev pub HasLiftsInVariables : Type 0
 HasLiftsInVariables =
-    (n : ℕ) (m : Matrix) → IsRing m.ring → IsMatrixInVariables n m → (v c : Vector) → IsVectorInVariables n v → IsLift m v c → IsVectorInVariables n c
+    (n : ℕ) (m : Matrix) → IsRing m.ring → IsMatrixInVariables n m → (v c : Vector) → IsVectorInVariables n v
+    → IsLift m v c → IsVectorInVariables n c
 
 -- coordinates, the first block of a lift over generators and a base
 abbrev pub HasCoordinatesInVariables : Type 0
 HasCoordinatesInVariables =
-    (n : ℕ) (generators base : Matrix) → IsRing generators.ring → IsMatrixInVariables n generators → IsMatrixInVariables n base
+    (n : ℕ) (generators base : Matrix) → IsRing generators.ring → IsMatrixInVariables n generators
+    → IsMatrixInVariables n base
     → (v c : Vector) → IsVectorInVariables n v → IsLift (stacked generators base) v c
     → IsVectorInVariables n (vector_part 0 (length generators.rows) c)
 
 -- the rest of a division by the reduced basis of a span
 abbrev pub HasRestsInVariables : Type 0
 HasRestsInVariables =
-    (n : ℕ) (m : Matrix) → IsRing m.ring → IsMatrix m → IsMatrixInVariables n m → (basis : List Vector) → IsSpanBasis m basis
+    (n : ℕ) (m : Matrix) → IsRing m.ring → IsMatrix m → IsMatrixInVariables n m → (basis : List Vector)
+    → IsSpanBasis m basis
     → (v rest quotients : Vector) → IsVectorInVariables n v → IsDivision m.ring m.target basis v rest quotients
     → IsVectorInVariables n rest
 
 -- a vector that is reduced by relations and differs by one of their span from one over n variables
 abbrev pub HasReducedVectorsInVariables : Type 0
 HasReducedVectorsInVariables =
-    (n : ℕ) (m : Matrix) → IsRing m.ring → IsMatrixInVariables n m → (v w : Vector) → IsVectorInVariables n v → IsVector m.ring m.target w → v.degree ≡ w.degree
+    (n : ℕ) (m : Matrix) → IsRing m.ring → IsMatrixInVariables n m → (v w : Vector) → IsVectorInVariables n v
+    → IsVector m.ring m.target w → v.degree ≡ w.degree
     → InSpan m (vector_difference m.ring v w)
     → IsReducedByRelations m w → IsVectorInVariables n w

@@ -12,7 +12,8 @@ HasIdentitiesInVariables = (n : ℕ) (ring : Ring) (degrees : List ℤ) → IsMa
 -- a product is
 abbrev pub HasMatrixProductsInVariables : Type 0
 HasMatrixProductsInVariables =
-    (n : ℕ) (a b : Matrix) → IsMatrixInVariables n a → IsMatrixInVariables n b → IsMatrixInVariables n (matrix_product a b)
+    (n : ℕ) (a b : Matrix) → IsMatrixInVariables n a → IsMatrixInVariables n b
+    → IsMatrixInVariables n (matrix_product a b)
 
 -- a negative
 abbrev pub HasNegatedInVariables : Type 0

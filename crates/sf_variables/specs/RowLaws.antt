@@ -13,22 +13,26 @@ use Rattle.sf_variables.specs.Variables.{IsInVariables, IsPolynomialInVariables,
 -- a sum of polynomials
 abbrev pub HasPolynomialSumsInVariables : Type 0
 HasPolynomialSumsInVariables =
-    (n : ℕ) (ring : Ring) (us vs : List (Term Monomial)) → IsPolynomialInVariables n us → IsPolynomialInVariables n vs → IsPolynomialInVariables n (polynomial_sum ring us vs)
+    (n : ℕ) (ring : Ring) (us vs : List (Term Monomial)) → IsPolynomialInVariables n us
+    → IsPolynomialInVariables n vs → IsPolynomialInVariables n (polynomial_sum ring us vs)
 
 -- and a product
 abbrev pub HasPolynomialProductsInVariables : Type 0
 HasPolynomialProductsInVariables =
-    (n : ℕ) (ring : Ring) (us vs : List (Term Monomial)) → IsPolynomialInVariables n us → IsPolynomialInVariables n vs → IsPolynomialInVariables n (polynomial_product ring us vs)
+    (n : ℕ) (ring : Ring) (us vs : List (Term Monomial)) → IsPolynomialInVariables n us
+    → IsPolynomialInVariables n vs → IsPolynomialInVariables n (polynomial_product ring us vs)
 
 -- a sum of rows
 abbrev pub HasSumsInVariables : Type 0
 HasSumsInVariables =
-    (n : ℕ) (ring : Ring) (us vs : List (Term Place)) → IsRowInVariables n us → IsRowInVariables n vs → IsRowInVariables n (row_sum ring us vs)
+    (n : ℕ) (ring : Ring) (us vs : List (Term Place)) → IsRowInVariables n us → IsRowInVariables n vs
+    → IsRowInVariables n (row_sum ring us vs)
 
 -- a difference
 abbrev pub HasDifferencesInVariables : Type 0
 HasDifferencesInVariables =
-    (n : ℕ) (ring : Ring) (us vs : List (Term Place)) → IsRowInVariables n us → IsRowInVariables n vs → IsRowInVariables n (row_difference ring us vs)
+    (n : ℕ) (ring : Ring) (us vs : List (Term Place)) → IsRowInVariables n us → IsRowInVariables n vs
+    → IsRowInVariables n (row_difference ring us vs)
 
 -- a negative
 abbrev pub HasNegativesInVariables : Type 0

@@ -9,7 +9,7 @@ use Rattle.sf_algebra.specs.Vectors.{Place, Vector, entry}
 use Rattle.sf_algebra.proofs.Basics.Lists.{AllByRecursion-append, AllByRecursion-weaken}
 use Rattle.sf_algebra.proofs.GradedMatrices.Ranges.{AllByRecursion-slice_range}
 use Rattle.sf_algebra.proofs.GradedMatrices.Stacks.{AllByRecursion-map}
-use Rattle.sf_algebra.proofs.Tensors.Kronecker.{AllByRecursion-flat_map}
+use Rattle.sf_algebra.proofs.Tensors.Kronecker.{AllByRecursion-flat_map, kronecker_row}
 use Rattle.sf_algebra.proofs.Vectors.Positions.{AllByRecursion-at_position, AllByRecursion-entry}
 use Rattle.sf_variables.specs.Variables.{IsInVariables, IsRowInVariables, IsVectorInVariables, AreInVariables, IsMatrixInVariables}
 use Rattle.sf_variables.proofs.Keeping.Monomials.{IsInVariables-one}
@@ -50,12 +50,16 @@ module _ (n : ℕ) where
       AreInVariables-map (vector_part c0 c1) (λ v. IsRowInVariables-part n c0 c1 v.terms) (slice_range m.rows r0 r1)
       (AllByRecursion-slice_range (IsVectorInVariables n) m.rows r0 r1 h)
 
+  abbrev HasVariables : Term Place → Type 0
+  HasVariables t = IsInVariables n t.at.monomial
+
   -- a column has entries of the rows
-  IsRowInVariables-column_terms : (j i : ℕ) (vs : List Vector) → AreInVariables n vs → IsRowInVariables n (column_terms j i vs)
+  IsRowInVariables-column_terms : (j i : ℕ) (vs : List Vector) → AreInVariables n vs
+      → IsRowInVariables n (column_terms j i vs)
   IsRowInVariables-column_terms j i [] h = tt
   IsRowInVariables-column_terms j i (v ∷ vs) h =
       AllByRecursion-append _ (at_position i (entry j v.terms)) (column_terms j (suc i) vs)
-      (AllByRecursion-at_position (λ (t : Term Place). IsInVariables n t.at.monomial) i (entry j v.terms) (AllByRecursion-entry (λ (t : Term Place). IsInVariables n t.at.monomial) j v.terms h.0))
+      (AllByRecursion-at_position HasVariables i (entry j v.terms) (AllByRecursion-entry HasVariables j v.terms h.0))
       (IsRowInVariables-column_terms j (suc i) vs h.1)
 
   AreInVariables-column_rows : (rows : List Vector) → AreInVariables n rows → (j : ℕ) (ds : List ℤ)
@@ -70,6 +74,6 @@ module _ (n : ℕ) where
       → IsMatrixInVariables n (kronecker a b)
   IsMatrixInVariables-kronecker a b h k =
       AllByRecursion-flat_map (IsVectorInVariables n)
-      (λ (v : Vector). map (λ (w : Vector). record { degree = v.degree +ℤ w.degree; terms = kronecker_terms a.ring (length b.target) v.terms w.terms }) b.rows)
-      a.rows
-      (AllByRecursion-weaken _ _ (λ v e. AreInVariables-map (λ (w : Vector). record { degree = v.degree +ℤ w.degree; terms = kronecker_terms a.ring (length b.target) v.terms w.terms }) (λ w f. IsRowInVariables-kronecker_terms n a.ring (length b.target) v.terms w.terms e f) b.rows k) a.rows h)
+      (λ (v : Vector). kronecker_row a.ring (length b.target) v b.rows) a.rows
+      (AllByRecursion-weaken _ _ (λ v e. AreInVariables-map (λ (w : Vector). record { degree = v.degree +ℤ w.degree; terms = kronecker_terms a.ring (length b.target) v.terms w.terms })
+      (λ w f. IsRowInVariables-kronecker_terms n a.ring (length b.target) v.terms w.terms e f) b.rows k) a.rows h)

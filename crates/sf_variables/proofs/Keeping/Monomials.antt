@@ -1,5 +1,5 @@
 -- Monomials over the first n variables: products, divisors, quotients and least common multiples.
-use Rattle.std.proofs.Common.{◌≡◌, ℕ, zero, suc, ◌+◌, ◌-◌, ◌<◌, ◌≤◌, [], drop, refl, subst, arith}
+use Rattle.std.proofs.Common.{◌≡◌, ℕ, zero, suc, ◌+◌, ◌-◌, ◌<◌, ◌≤◌, List, [], ◌∷◌, drop, subst, arith}
 use Rattle.std.specs.List.{AllByRecursion}
 use Rattle.std.proofs.lemmas.List.{drop-drop}
 use Rattle.sf_algebra.specs.Divisibility.{Divides, quotient, lcm}
@@ -7,62 +7,60 @@ use Rattle.sf_algebra.specs.Monomials.{Monomial, exponents, one, product, variab
 use Rattle.sf_algebra.proofs.GradedMatrices.Ranges.{AllByRecursion-drop}
 use Rattle.sf_variables.specs.Variables.{IsInVariables}
 
--- an exponent of c is 0 where those of a and of b are
-record VanishesWith (a b c : Monomial) : Type 0 where
-  first : a.e1 ≡ 0 → b.e1 ≡ 0 → c.e1 ≡ 0
-  second : a.e2 ≡ 0 → b.e2 ≡ 0 → c.e2 ≡ 0
-  third : a.e3 ≡ 0 → b.e3 ≡ 0 → c.e3 ≡ 0
-  fourth : a.e4 ≡ 0 → b.e4 ≡ 0 → c.e4 ≡ 0
-  fifth : a.e5 ≡ 0 → b.e5 ≡ 0 → c.e5 ≡ 0
-  sixth : a.e6 ≡ 0 → b.e6 ≡ 0 → c.e6 ≡ 0
+-- each number of a third list is 0 where those of two lists are
+abbrev VanishWith : List ℕ → List ℕ → List ℕ → Type 0
+VanishWith xs ys [] = Unit {0}
+VanishWith (x ∷ xs) (y ∷ ys) (z ∷ zs) = (x ≡ 0 → y ≡ 0 → z ≡ 0) × VanishWith xs ys zs
+VanishWith xs ys (z ∷ zs) = ⊥
 
-IsInVariables-with : (n : ℕ) (a b c : Monomial) → VanishesWith a b c → IsInVariables n a → IsInVariables n b
-    → IsInVariables n c
-IsInVariables-with zero a b c f h k = (f.first h.0 k.0, (f.second h.1.0 k.1.0, (f.third h.1.1.0 k.1.1.0, (f.fourth h.1.1.1.0 k.1.1.1.0, (f.fifth h.1.1.1.1.0 k.1.1.1.1.0, (f.sixth h.1.1.1.1.1.0 k.1.1.1.1.1.0, tt))))))
-IsInVariables-with (suc zero) a b c f h k = (f.second h.0 k.0, (f.third h.1.0 k.1.0, (f.fourth h.1.1.0 k.1.1.0, (f.fifth h.1.1.1.0 k.1.1.1.0, (f.sixth h.1.1.1.1.0 k.1.1.1.1.0, tt)))))
-IsInVariables-with (suc (suc zero)) a b c f h k = (f.third h.0 k.0, (f.fourth h.1.0 k.1.0, (f.fifth h.1.1.0 k.1.1.0, (f.sixth h.1.1.1.0 k.1.1.1.0, tt))))
-IsInVariables-with (suc (suc (suc zero))) a b c f h k = (f.fourth h.0 k.0, (f.fifth h.1.0 k.1.0, (f.sixth h.1.1.0 k.1.1.0, tt)))
-IsInVariables-with (suc (suc (suc (suc zero)))) a b c f h k = (f.fifth h.0 k.0, (f.sixth h.1.0 k.1.0, tt))
-IsInVariables-with (suc (suc (suc (suc (suc zero))))) a b c f h k = (f.sixth h.0 k.0, tt)
-IsInVariables-with (suc (suc (suc (suc (suc (suc n)))))) a b c f h k = AllByRecursion-drop (λ e. e ≡ 0) n [] tt
+abbrev pub AreZero : List ℕ → Type 0
+AreZero = AllByRecursion (λ e. e ≡ 0)
+
+pub AreZero-drop : (n : ℕ) (xs : List ℕ) → AreZero xs → AreZero (drop n xs)
+AreZero-drop = AllByRecursion-drop (λ (e : ℕ). e ≡ 0)
+
+AreZero-with : (n : ℕ) (xs ys zs : List ℕ) → VanishWith xs ys zs → AreZero (drop n xs) → AreZero (drop n ys)
+    → AreZero (drop n zs)
+AreZero-with n xs ys [] f h k = AreZero-drop n [] tt
+AreZero-with zero (x ∷ xs) (y ∷ ys) (z ∷ zs) f h k = (f.0 h.0 k.0, AreZero-with zero xs ys zs f.1 h.1 k.1)
+AreZero-with (suc n) (x ∷ xs) (y ∷ ys) (z ∷ zs) f h k = AreZero-with n xs ys zs f.1 h k
+AreZero-with n [] ys (z ∷ zs) f h k = absurd f
+AreZero-with n (x ∷ xs) [] (z ∷ zs) f h k = absurd f
 
 module _ (n : ℕ) where
   pub IsInVariables-product : (a b : Monomial) → IsInVariables n a → IsInVariables n b → IsInVariables n (product a b)
   IsInVariables-product a b =
-      IsInVariables-with n a b (product a b)
-      (record { first = omega arith; second = omega arith; third = omega arith; fourth = omega arith; fifth = omega arith; sixth = omega arith })
+      AreZero-with n (exponents a) (exponents b) (exponents (product a b)) (omega arith)
 
   pub IsInVariables-divisor : (a b : Monomial) → Divides a b → IsInVariables n b → IsInVariables n a
-  IsInVariables-divisor a b d h =
-      IsInVariables-with n b b a
-      (record { first = omega arith; second = omega arith; third = omega arith; fourth = omega arith; fifth = omega arith; sixth = omega arith }) h h
+  IsInVariables-divisor a b d h = AreZero-with n (exponents b) (exponents b) (exponents a) (omega arith) h h
 
   pub IsInVariables-quotient : (a b : Monomial) → IsInVariables n a → IsInVariables n (quotient a b)
   IsInVariables-quotient a b h =
-      IsInVariables-with n a a (quotient a b)
-      (record { first = omega arith; second = omega arith; third = omega arith; fourth = omega arith; fifth = omega arith; sixth = omega arith }) h h
+      AreZero-with n (exponents a) (exponents a) (exponents (quotient a b)) (omega arith) h h
 
   pub IsInVariables-lcm : (a b : Monomial) → IsInVariables n a → IsInVariables n b → IsInVariables n (lcm a b)
-  IsInVariables-lcm a b =
-      IsInVariables-with n a b (lcm a b)
-      (record { first = omega arith; second = omega arith; third = omega arith; fourth = omega arith; fifth = omega arith; sixth = omega arith })
+  IsInVariables-lcm a b = AreZero-with n (exponents a) (exponents b) (exponents (lcm a b)) (omega arith)
 
   pub IsInVariables-one : IsInVariables n one
-  IsInVariables-one = AllByRecursion-drop (λ e. e ≡ 0) n (exponents one) (refl, (refl, (refl, (refl, (refl, (refl, tt))))))
+  IsInVariables-one = AreZero-drop n (exponents one) (omega arith)
 
 -- what is over fewer variables
 pub IsInVariables-more : (n m : ℕ) → n ≤ m → (a : Monomial) → IsInVariables n a → IsInVariables m a
 IsInVariables-more n m h a k =
     let whole : n + (m - n) ≡ m = omega arith in
     subst (λ i. IsInVariables i a) whole
-    (subst (AllByRecursion (λ e. e ≡ 0)) (drop-drop (m - n) n (exponents a)) (AllByRecursion-drop (λ e. e ≡ 0) (m - n) (drop n (exponents a)) k))
+    (subst AreZero (drop-drop (m - n) n (exponents a))
+    (AreZero-drop (m - n) (drop n (exponents a)) k))
 
--- the first n variables
+-- a variable is over those up to it
+variable_itself : (i : ℕ) → IsInVariables (suc i) (variable i)
+variable_itself zero = omega arith
+variable_itself (suc zero) = omega arith
+variable_itself (suc (suc zero)) = omega arith
+variable_itself (suc (suc (suc zero))) = omega arith
+variable_itself (suc (suc (suc (suc zero)))) = omega arith
+variable_itself (suc (suc (suc (suc (suc i))))) = AreZero-drop i [] tt
+
 pub IsInVariables-variable : (n i : ℕ) → i < n → IsInVariables n (variable i)
-IsInVariables-variable n zero h = IsInVariables-more 1 n (omega arith) (variable zero) (refl, (refl, (refl, (refl, (refl, tt)))))
-IsInVariables-variable n (suc zero) h = IsInVariables-more 2 n (omega arith) (variable 1) (refl, (refl, (refl, (refl, tt))))
-IsInVariables-variable n (suc (suc zero)) h = IsInVariables-more 3 n (omega arith) (variable 2) (refl, (refl, (refl, tt)))
-IsInVariables-variable n (suc (suc (suc zero))) h = IsInVariables-more 4 n (omega arith) (variable 3) (refl, (refl, tt))
-IsInVariables-variable n (suc (suc (suc (suc zero)))) h = IsInVariables-more 5 n (omega arith) (variable 4) (refl, tt)
-IsInVariables-variable n (suc (suc (suc (suc (suc zero))))) h = IsInVariables-more 6 n (omega arith) (variable 5) tt
-IsInVariables-variable n (suc (suc (suc (suc (suc (suc i)))))) h = IsInVariables-more 6 n (omega arith) _ tt
+IsInVariables-variable n i h = IsInVariables-more (suc i) n h (variable i) (variable_itself i)

@@ -2,10 +2,10 @@
 -- inner part. Both are multiplicative.
 use Rattle.std.proofs.Common.{◌≡◌, ℕ, zero, suc, ◌+◌, if◌then◌else◌, Bool, true, false, [], refl, sym, ◌∙◌, ap, arith}
 use Rattle.sf_algebra.specs.Monomials.{Monomial, one, product}
-use Rattle.sf_algebra.proofs.GradedMatrices.Ranges.{AllByRecursion-drop}
 use Rattle.sf_algebra.proofs.Monomials.Divisors.{exponents_equal, product-cancel}
 use Rattle.sf_algebra.proofs.Monomials.Products.{product-comm, product-one_first}
 use Rattle.sf_variables.specs.Variables.{IsInVariables}
+use Rattle.sf_variables.proofs.Keeping.Monomials.{AreZero-drop}
 
 -- k is less than n
 abbrev is_before : ℕ → ℕ → Bool
@@ -105,7 +105,7 @@ IsInVariables-outer (suc (suc zero)) a e = let p = exponents_equal _ one e in (p
 IsInVariables-outer (suc (suc (suc zero))) a e = let p = exponents_equal _ one e in (p.3, (p.4, (p.5, tt)))
 IsInVariables-outer (suc (suc (suc (suc zero)))) a e = let p = exponents_equal _ one e in (p.4, (p.5, tt))
 IsInVariables-outer (suc (suc (suc (suc (suc zero))))) a e = let p = exponents_equal _ one e in (p.5, tt)
-IsInVariables-outer (suc (suc (suc (suc (suc (suc n)))))) a e = AllByRecursion-drop (λ e. e ≡ 0) n [] tt
+IsInVariables-outer (suc (suc (suc (suc (suc (suc n)))))) a e = AreZero-drop n [] tt
 
 module _ (n : ℕ) where
   -- a monomial over the first n variables is its inner part, and has no outer one as a factor
