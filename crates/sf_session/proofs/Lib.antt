@@ -13,3 +13,4 @@ pub mod SmallTerms
 pub mod PlacedTerms
 pub mod PlacedRows
 pub mod Definitions
+pub mod Variables

@@ -1,5 +1,5 @@
 -- The grammar of the lines that are built. A line is cut at its spaces, and its words give the command.
-use Rattle.std.specs.Prelude.{ℕ, Bool, ◌&&◌, ◌||◌, if◌then◌else◌, Option, Some, None, option_and_then, List, [], ◌∷◌, codes, ℤ, IsTrue}
+use Rattle.std.specs.Prelude.{ℕ, ◌≤◌, length, Bool, ◌&&◌, ◌||◌, if◌then◌else◌, Option, Some, None, option_and_then, List, [], ◌∷◌, codes, ℤ, IsTrue}
 use Rattle.std.specs.Option.{option_map, option_map_or}
 use Rattle.std.specs.List.{list_all, list_any}
 use Rattle.std.specs.Str.{bytes_eq}
@@ -97,19 +97,19 @@ command_of (word ∷ arguments) = named_command word arguments
 abbrev pub is_silent : List ℕ → Bool
 is_silent line = begins_with 35 line || list_all is_space line
 
--- the degrees of a command have at most six digits
+-- the degrees of a command have at most six digits, and a ring has a variable
 abbrev pub IsWritten : Command → Type 0
 IsWritten (Spectral version) = Unit {0}
-IsWritten (Ring modulus names) = Unit {0}
+IsWritten (Ring modulus names) = 1 ≤ length names
 IsWritten (Module name degrees relations) = IsTrue (list_all is_written_degree degrees)
 IsWritten (Show name) = Unit {0}
 IsWritten Later = Unit {0}
 
--- the degrees that a line's command gives have at most six digits
-abbrev pub HasWrittenDegrees : Line → Type 0
-HasWrittenDegrees Silent = Unit {0}
-HasWrittenDegrees Malformed = Unit {0}
-HasWrittenDegrees (Read command) = IsWritten command
+-- so it is with a line's command
+abbrev pub HasWrittenCommand : Line → Type 0
+HasWrittenCommand Silent = Unit {0}
+HasWrittenCommand Malformed = Unit {0}
+HasWrittenCommand (Read command) = IsWritten command
 
 -- what a line is; a line of the grammar doesn't begin with a space
 abbrev pub line_of : List ℕ → Line

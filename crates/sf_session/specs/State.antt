@@ -1,11 +1,12 @@
 -- What the earlier lines of a script have settled: the headings, and the modules by their names.
-use Rattle.std.specs.Prelude.{ℕ, Bool, true, false, not, ◌&&◌, nat_le, Option, Some, None, List, [], ◌∷◌, length, ℤ, pos, neg_ℤ, int_le, ◌≤◌}
+use Rattle.std.specs.Prelude.{◌≡◌, ℕ, Bool, true, false, not, ◌&&◌, nat_le, Option, Some, None, List, [], ◌∷◌, length, ℤ, pos, neg_ℤ, int_le, ◌≤◌}
 use Rattle.std.specs.Ordering.{int_eq}
-use Rattle.std.specs.List.{list_any}
+use Rattle.std.specs.List.{AllByRecursion, list_any}
 use Rattle.std.specs.Map.{lookup}
 use Rattle.std.specs.Str.{bytes_eq}
 use Rattle.sf_algebra.specs.Matrices.{Matrix}
 use Rattle.sf_field.specs.Moduli.{is_modulus}
+use Rattle.sf_variables.specs.Variables.{IsMatrixInVariables}
 use Rattle.sf_session.specs.declared.heads.Heads.TheVariants.{Unopened, Opened, Within}
 use Rattle.sf_session.specs.declared.heads.Heads.{Heads}
 use Rattle.sf_session.specs.declared.heads.Ring.{Ring}
@@ -54,8 +55,15 @@ module_named name modules = lookup (bytes_eq name) modules
 abbrev pub is_degree : ℤ → Bool
 is_degree d = int_le (neg_ℤ (pos 2000)) d && int_le d (pos 2000)
 
--- a ring has room for its variables
+-- a ring has a variable, and room for its variables
 abbrev pub HasFewVariables : Heads → Type 0
 HasFewVariables Unopened = Unit {0}
 HasFewVariables Opened = Unit {0}
-HasFewVariables (Within ring) = length ring.names ≤ 6
+HasFewVariables (Within ring) = (1 ≤ length ring.names) × (length ring.names ≤ 6)
+
+-- before the ring is given there is no module, and within it the relations of each are over its variables
+abbrev pub KeepsToVariables : Heads → List (List ℕ × Matrix) → Type 0
+KeepsToVariables Unopened modules = modules ≡ []
+KeepsToVariables Opened modules = modules ≡ []
+KeepsToVariables (Within ring) modules =
+    AllByRecursion (λ (m : List ℕ × Matrix). IsMatrixInVariables (length ring.names) m.1) modules

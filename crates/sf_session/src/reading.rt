@@ -3,7 +3,7 @@ ghost use Rattle.std.specs.List.{list_all, list_any};
 ghost use Rattle.std.specs.Option.{option_map};
 ghost use Rattle.std.specs.Str.{bytes_eq};
 ghost use Rattle.sf_session.specs.Words.{words, is_space, is_name};
-ghost use Rattle.sf_session.specs.Grammar.{later_words, is_later_word, is_silent, command_of, line_of, only, first, after, spectral_command, ring_command, show_command, module_command, degrees_and_rest, IsWritten, HasWrittenDegrees};
+ghost use Rattle.sf_session.specs.Grammar.{later_words, is_later_word, is_silent, command_of, line_of, only, first, after, spectral_command, ring_command, show_command, module_command, degrees_and_rest, IsWritten, HasWrittenCommand};
 ghost use Rattle.sf_session.specs.Placed.{is_written_degree};
 
 use crate::command::{Command, Line};
@@ -54,7 +54,7 @@ const LATER_WORDS: [&[u8]; 32] = [
 /// What a line of a script is.
 pub fn read_line(alloc: Global, line: &[u8]) -> Result<Line, OutOfMemory>
     ensures line { IfOk result (λ r. r ≡ line_of line.now) }
-    ensures written { IfOk result HasWrittenDegrees }
+    ensures written { IfOk result HasWrittenCommand }
 {
     if is_silent(line) {
         return Ok(Line::Silent);
@@ -136,7 +136,8 @@ fn read_spectral(arguments: &[u8]) -> Option<Command>
 }
 
 fn read_ring(alloc: Global, arguments: &[u8]) -> Result<Option<Command>, OutOfMemory>
-    ensures { IfOk result (λ r. r ≡ ring_command (words arguments.now)) }
+    ensures value { IfOk result (λ r. r ≡ ring_command (words arguments.now)) }
+    ensures written { IfOk result (λ r. IfSome r IsWritten) }
 {
     let Some((number, rest)) = next_word(arguments) else {
         return Ok(None);

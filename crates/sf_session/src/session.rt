@@ -1,4 +1,4 @@
-ghost use Rattle.std.specs.Prelude.{◌≡◌, [], ◌∷◌, ◌++◌, IsTrue, IfOk, OnOk, OnErr, is_none};
+ghost use Rattle.std.specs.Prelude.{◌≡◌, ◌≤◌, [], ◌∷◌, ◌++◌, length, IsTrue, IfOk, OnOk, OnErr, is_none};
 ghost use Rattle.std.specs.List.{list_all};
 ghost use Rattle.sf_session.specs.State.{start, module_named, is_degree, ring_of, HasFewVariables};
 ghost use Rattle.sf_session.specs.Refusals.{refusal_text, degree_text, definition};
@@ -32,13 +32,13 @@ pub struct Session {
 }
 
 impl Model for Session {
-    ghost use Rattle.sf_session.specs.State.{State, HasFewVariables};
+    ghost use Rattle.sf_session.specs.State.{State, HasFewVariables, KeepsToVariables};
 
     ghost Value = { State };
 
     ghost view = { λ s. record { heads = s.heads; modules = s.modules.entries } };
 
-    ghost invariant = { λ s. HasFewVariables s.heads };
+    ghost invariant = { λ s. HasFewVariables s.heads × KeepsToVariables s.heads s.modules.entries };
 }
 
 impl Session {
@@ -97,6 +97,7 @@ impl Session {
     }
 
     fn enter(&mut self, modulus: u64, names: List<Name>) -> Result<Vec<u8>, OutOfMemory>
+        requires { 1 ≤ length names }
         ensures reply { IfOk result (λ reply. Carried (Command.Ring modulus names) self.old reply.items self.new) }
         ensures kept { OnErr result (self.new ≡ self.old) }
     {
