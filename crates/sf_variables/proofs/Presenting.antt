@@ -2,3 +2,4 @@
 pub mod MatrixBases
 pub mod Presentations
 pub mod Lifts
+pub mod Coefficients

@@ -1,4 +1,5 @@
--- Lifts, coordinates, rests and reduced vectors of vectors over n variables are over n variables. (Textbook.)
+-- Coefficients, lifts, coordinates, rests and reduced vectors of vectors over n variables may be taken over n variables,
+-- or are. (Textbook: a ring of polynomials is free over one in fewer variables.)
 use Rattle.std.specs.Prelude.{◌≡◌, ℕ, List, length}
 use Rattle.sf_algebra.specs.Matrices.{Matrix, IsMatrix}
 use Rattle.sf_algebra.specs.MatrixOperations.{stacked, vector_part}
@@ -9,16 +10,22 @@ use Rattle.sf_groebner.specs.Divisions.{IsDivision}
 use Rattle.sf_groebner.specs.Lifts.{IsLift}
 use Rattle.sf_groebner.specs.Presentations.{IsReducedByRelations}
 use Rattle.sf_groebner.specs.ReducedBases.{IsSpanBasis}
-use Rattle.sf_groebner.specs.Spans.{InSpan}
+use Rattle.sf_groebner.specs.Spans.{IsCoefficients, combined, InSpan}
 use Rattle.sf_variables.specs.Variables.{IsMatrixInVariables, IsVectorInVariables}
 
--- a lift
+-- a vector in the span of a matrix has coefficients over n variables
+abbrev pub HasCoefficientsInVariables : Type 0
+HasCoefficientsInVariables =
+    (n : ℕ) (m : Matrix) → IsRing m.ring → IsMatrixInVariables n m → (v : Vector) → IsVectorInVariables n v
+    → InSpan m v → (c : Vector) × IsCoefficients m c × IsVectorInVariables n c × (combined m c ≡ v)
+
+-- a lift is over n variables
 abbrev pub HasLiftsInVariables : Type 0
 HasLiftsInVariables =
     (n : ℕ) (m : Matrix) → IsRing m.ring → IsMatrixInVariables n m → (v c : Vector) → IsVectorInVariables n v
     → IsLift m v c → IsVectorInVariables n c
 
--- coordinates, the first block of a lift over generators and a base
+-- so are coordinates, the first block of a lift over generators and a base
 abbrev pub HasCoordinatesInVariables : Type 0
 HasCoordinatesInVariables =
     (n : ℕ) (generators base : Matrix) → IsRing generators.ring → IsMatrixInVariables n generators

@@ -51,6 +51,10 @@ past-kept : (b : Bool) (x : ℕ) → past b x + kept b x ≡ x
 past-kept true x = omega arith
 past-kept false x = omega arith
 
+kept-kept : (b : Bool) (x : ℕ) → kept b (kept b x) ≡ kept b x
+kept-kept true x = refl
+kept-kept false x = refl
+
 module _ (n : ℕ) where
   pub outer-product : (a b : Monomial) → outer n (product a b) ≡ product (outer n a) (outer n b)
   outer-product a b = λ i. record {
@@ -80,6 +84,16 @@ module _ (n : ℕ) where
     e4 = past-kept (is_before 3 n) a.e4 i;
     e5 = past-kept (is_before 4 n) a.e5 i;
     e6 = past-kept (is_before 5 n) a.e6 i;
+  }
+
+  pub inner-inner : (a : Monomial) → inner n (inner n a) ≡ inner n a
+  inner-inner a = λ i. record {
+    e1 = kept-kept (is_before 0 n) a.e1 i;
+    e2 = kept-kept (is_before 1 n) a.e2 i;
+    e3 = kept-kept (is_before 2 n) a.e3 i;
+    e4 = kept-kept (is_before 3 n) a.e4 i;
+    e5 = kept-kept (is_before 4 n) a.e5 i;
+    e6 = kept-kept (is_before 5 n) a.e6 i;
   }
 
 -- over the first n variables nothing is outer, and nothing else is so
