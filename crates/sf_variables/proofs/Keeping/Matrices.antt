@@ -65,7 +65,8 @@ module _ (n : ℕ) where
   AreInVariables-column_rows : (rows : List Vector) → AreInVariables n rows → (j : ℕ) (ds : List ℤ)
       → AreInVariables n (column_rows rows j ds)
   AreInVariables-column_rows rows h j [] = tt
-  AreInVariables-column_rows rows h j (d ∷ ds) = (IsRowInVariables-column_terms j 0 rows h, AreInVariables-column_rows rows h (suc j) ds)
+  AreInVariables-column_rows rows h j (d ∷ ds) =
+      (IsRowInVariables-column_terms j 0 rows h, AreInVariables-column_rows rows h (suc j) ds)
 
   pub IsMatrixInVariables-transposed : (m : Matrix) → IsMatrixInVariables n m → IsMatrixInVariables n (transposed m)
   IsMatrixInVariables-transposed m h = AreInVariables-column_rows m.rows h 0 m.target
@@ -75,5 +76,10 @@ module _ (n : ℕ) where
   IsMatrixInVariables-kronecker a b h k =
       AllByRecursion-flat_map (IsVectorInVariables n)
       (λ (v : Vector). kronecker_row a.ring (length b.target) v b.rows) a.rows
-      (AllByRecursion-weaken _ _ (λ v e. AreInVariables-map (λ (w : Vector). record { degree = v.degree +ℤ w.degree; terms = kronecker_terms a.ring (length b.target) v.terms w.terms })
+      (AllByRecursion-weaken _ _ (λ v e. AreInVariables-map
+      (λ (w : Vector). record {
+        degree = v.degree +ℤ w.degree;
+        terms = kronecker_terms a.ring
+            (length b.target) v.terms w.terms;
+      })
       (λ w f. IsRowInVariables-kronecker_terms n a.ring (length b.target) v.terms w.terms e f) b.rows k) a.rows h)

@@ -80,7 +80,8 @@ module _ (n : ℕ) where
           vector = found.0;
           item = found.1;
           divides_inner = found.2;
-          divides_whole = lead_divides-trans found.0.terms (inner_place n s.term.at) s.term.at found.2 (PlaceDivides-inner s.term.at);
+          divides_whole = lead_divides-trans found.0.terms (inner_place n s.term.at) s.term.at found.2
+              (PlaceDivides-inner s.term.at);
         }
 
     -- what is reduced by the basis, and whose outer parts but the first are in the module, has no other parts
@@ -96,7 +97,9 @@ module _ (n : ℕ) where
               | inl same ↦ (Decides-same_exponents (outer n u.at.monomial) one).0 same
               | inr other ↦
                   let s = source (outer n u.at.monomial) c.terms u item refl in
-                  let d = divisor (outer n u.at.monomial) c (parts (outer n u.at.monomial) (λ e. clash _ ((Decides-same_exponents (outer n u.at.monomial) one).1 e) other)) s in
+                  let d = divisor (outer n u.at.monomial) c
+                  (parts (outer n u.at.monomial)
+                  (λ e. clash _ ((Decides-same_exponents (outer n u.at.monomial) one).1 e) other)) s in
                   absurd (clash _ d.divides_whole
                   (AllByRecursion-item _ c.terms s.term (IsReducedBy-item basis d.vector c.terms free d.item) s.item))
             ]
@@ -106,7 +109,8 @@ module _ (n : ℕ) where
       → outer n t.at.monomial ≡ one
   lead_outer t us e =
       outer-inner_same n t.at.monomial
-      (ap (λ (k : Place). k.monomial) (PlaceDivides-antisymm (inner_place n t.at) t.at (PlaceDivides-inner t.at) ((Decides-place_divides t.at (inner_place n t.at)).0 e)))
+      (ap (λ (k : Place). k.monomial) (PlaceDivides-antisymm (inner_place n t.at) t.at (PlaceDivides-inner t.at)
+      ((Decides-place_divides t.at (inner_place n t.at)).0 e)))
 
   -- the reduced basis of a module of vectors that has their outer parts
   pub basis_in_variables : (ring : Ring) → IsPositive ring.weights → (N : Vector → Type 0)
@@ -117,7 +121,8 @@ module _ (n : ℕ) where
       let lead = IsMonic-lead v.terms (AllByRecursion-item _ basis v h.monic item) in
       let inside = AllByRecursion-item N basis v h.inside item in
       subst (IsRowInVariables n) (sym lead.2)
-      (AllByRecursion-from_items _ (lead.0 ∷ lead.1) (λ u i. IsInVariables-outer n u.at.monomial (none v item inside lead.0 lead.1 lead.2 u i))))
+      (AllByRecursion-from_items _ (lead.0 ∷ lead.1)
+      (λ u i. IsInVariables-outer n u.at.monomial (none v item inside lead.0 lead.1 lead.2 u i))))
     where
       none : (v : Vector) → IsItem v basis → N v → (t : Term Place) (us : List (Term Place)) → v.terms ≡ t ∷ us
           → (u : Term Place) → IsItem u (t ∷ us) → outer n u.at.monomial ≡ one
@@ -128,7 +133,8 @@ module _ (n : ℕ) where
           let falling : IsCanonicalRow ring (t ∷ us) = subst (IsCanonicalRow ring) e (canonical v inside) in
           let free : IsReducedBy basis us =
           IsApart-tail basis v t us e h.apart item
-          (AllByRecursion-weaken _ _ (λ x no. ap (λ ts. lead_divides ts x.at) e ∙ no) us (lead_divides-tail ring.weights positive t us falling.descending)) in
+          (AllByRecursion-weaken _ _ (λ x no. ap (λ ts. lead_divides ts x.at) e ∙ no) us
+          (lead_divides-tail ring.weights positive t us falling.descending)) in
           from_source v item t us e free b s d (subst (IsItem s.term) e s.item)
         where
           from_source : (v : Vector) → IsItem v basis → (t : Term Place) (us : List (Term Place)) → v.terms ≡ t ∷ us

@@ -70,12 +70,15 @@ module _ (n : ℕ) (b : Monomial) (p : ℕ) (g : Term Place → ℕ) where
 
   share-outer : (rows : List Vector) → AreInVariables n rows → (t : Term Place)
       → share place_product p (λ k. k.monomial) (λ k. row_at rows k.position) at_outer t
-      ≡ (if is_at_outer n b t then share place_product p (λ k. k.monomial) (λ k. row_at rows k.position) g (inner_term n t) else 0)
+      ≡ (if is_at_outer n b t then share place_product p (λ k. k.monomial) (λ k. row_at rows k.position) g
+      (inner_term n t) else 0)
   share-outer rows h t =
       total-each p _
-      (λ u. if is_at_outer n b t then g (term_product place_product p (factor (λ k. k.monomial) (inner_term n t)) u) else 0)
+      (λ u. if is_at_outer n b t then g (term_product place_product p
+      (factor (λ k. k.monomial) (inner_term n t)) u) else 0)
       (row_at rows t.at.position)
-      (AllByRecursion-weaken _ _ (λ u inside. ap (λ m. m % p) (at_outer-product t u inside)) (row_at rows t.at.position) (row_at-each (IsRowInVariables n) tt rows h t.at.position))
+      (AllByRecursion-weaken _ _ (λ u inside. ap (λ m. m % p) (at_outer-product t u inside))
+      (row_at rows t.at.position) (row_at-each (IsRowInVariables n) tt rows h t.at.position))
       ∙ chosen (is_at_outer n b t)
     where
       chosen : (c : Bool) → total p
@@ -95,8 +98,10 @@ outer_terms-sum n b ring positive us vs =
     (IsCanonical-row_sum ring positive (outer_terms n b us) (outer_terms n b vs))
     (λ g additive.
     total-outer_terms n b ring.modulus g (row_sum ring us vs)
-    ∙ total-add (place_cmp ring.weights) order ring.modulus (at_outer n b ring.modulus g) (at_outer-additive n b ring.modulus g additive) us vs
-    ∙ (λ i. sum_mod ring.modulus (sym (total-outer_terms n b ring.modulus g us) i) (sym (total-outer_terms n b ring.modulus g vs) i))
+    ∙ total-add (place_cmp ring.weights) order ring.modulus (at_outer n b ring.modulus g)
+    (at_outer-additive n b ring.modulus g additive) us vs
+    ∙ (λ i. sum_mod ring.modulus (sym (total-outer_terms n b ring.modulus g us) i)
+    (sym (total-outer_terms n b ring.modulus g vs) i))
     ∙ sym (total-add (place_cmp ring.weights) order ring.modulus g additive (outer_terms n b us) (outer_terms n b vs)))
 
 pub row_combination-outer_terms : (n : ℕ) (b : Monomial) (ring : Ring) → 0 < ring.modulus → (rows : List Vector)
@@ -107,7 +112,9 @@ row_combination-outer_terms n b ring positive rows h c =
     (outer_terms n b c) (outer_terms n b (row_combination ring rows c))
     (IsCanonical-outer_terms n b ring _ (IsCanonical-row_combination ring positive rows c))
     (λ g additive.
-    total-outer_terms n b ring.modulus (share place_product ring.modulus (λ k. k.monomial) (λ k. row_at rows k.position) g) c
+    total-outer_terms n b ring.modulus (share place_product ring.modulus (λ k. k.monomial)
+    (λ k. row_at rows k.position) g) c
     ∙ total-same ring.modulus _ _ c (λ t. ap (λ m. m % ring.modulus) (sym (share-outer n b ring.modulus g rows h t)))
-    ∙ sym (total-combination (place_keys ring.weights) ring.modulus (λ k. k.monomial) (λ k. row_at rows k.position) (at_outer n b ring.modulus g) (at_outer-additive n b ring.modulus g additive) c)
+    ∙ sym (total-combination (place_keys ring.weights) ring.modulus (λ k. k.monomial) (λ k. row_at rows k.position)
+    (at_outer n b ring.modulus g) (at_outer-additive n b ring.modulus g additive) c)
     ∙ sym (total-outer_terms n b ring.modulus g (row_combination ring rows c)))

@@ -47,12 +47,13 @@ module _ (n : ℕ) (b : Monomial) where
               ∙ others
               ∙ ap (outer_terms n b) (sym (part_terms-outside from to t ts outside))
         ]
-        | inr elsewhere ↦ ap (part_terms from to) (outer_terms-elsewhere t ts elsewhere) ∙ others ∙ elim (cases_between from to t.at.position) [
-          | inl inside ↦
-              sym (outer_terms-elsewhere (moved_back from t) (part_terms from to ts) elsewhere)
-              ∙ ap (outer_terms n b) (sym (part_terms-inside from to t ts inside.0 inside.1))
-          | inr outside ↦ ap (outer_terms n b) (sym (part_terms-outside from to t ts outside))
-        ]
+        | inr elsewhere ↦ ap (part_terms from to) (outer_terms-elsewhere t ts elsewhere) ∙ others ∙ elim
+            (cases_between from to t.at.position) [
+              | inl inside ↦
+                  sym (outer_terms-elsewhere (moved_back from t) (part_terms from to ts) elsewhere)
+                  ∙ ap (outer_terms n b) (sym (part_terms-inside from to t ts inside.0 inside.1))
+              | inr outside ↦ ap (outer_terms n b) (sym (part_terms-outside from to t ts outside))
+            ]
       ]
 
 module _ (n : ℕ) (m : Matrix) (positive : 0 < m.ring.modulus) (keeps : IsMatrixInVariables n m) where

@@ -133,7 +133,8 @@ module _ (n : ℕ) where
   pub outer-inner_same : (a : Monomial) → inner n a ≡ a → outer n a ≡ one
   outer-inner_same a e =
       product-cancel (inner n a) (outer n a) one
-      (product-comm (inner n a) (outer n a) ∙ product-outer_inner n a ∙ sym e ∙ sym (product-one_first (inner n a)) ∙ product-comm one (inner n a))
+      (product-comm (inner n a) (outer n a) ∙ product-outer_inner n a ∙ sym e ∙ sym (product-one_first (inner n a))
+      ∙ product-comm one (inner n a))
 
   -- a factor over the first n variables changes the inner part alone
   pub outer-product_inside : (a b : Monomial) → IsInVariables n b → outer n (product a b) ≡ outer n a

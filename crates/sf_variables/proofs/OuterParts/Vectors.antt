@@ -87,7 +87,8 @@ module _ (n : ℕ) (b : Monomial) where
       → place_degree weights degrees (inner_place n k)
       ≡ place_degree weights degrees k +ℤ neg_ℤ (pos (monomial_degree weights b))
   place_degree-inner weights degrees k e =
-      let whole : monomial_degree weights k.monomial ≡ monomial_degree weights b + monomial_degree weights (inner n k.monomial) =
+      let whole : monomial_degree weights k.monomial ≡ monomial_degree weights b + monomial_degree weights
+      (inner n k.monomial) =
       ap (λ (l : Place). monomial_degree weights l.monomial) (sym (place_product-inner k e))
       ∙ monomial_degree-product weights b (inner n k.monomial) in
       omega (arith, ints, whole)
@@ -96,8 +97,14 @@ module _ (n : ℕ) (b : Monomial) where
       → AllByRecursion HasOuter ts → IsHomogeneous weights degrees d ts
       → IsHomogeneous weights degrees (d +ℤ neg_ℤ (pos (monomial_degree weights b))) (map (inner_term n) ts)
   IsHomogeneous-inner weights degrees d [] each h = tt
-  IsHomogeneous-inner weights degrees d (t ∷ ts) each h =
-      ((h.0.0, ap (λ e. e +ℤ neg_ℤ (pos (monomial_degree weights b))) h.0.1 ∙ sym (place_degree-inner weights degrees t.at each.0)), IsHomogeneous-inner weights degrees d ts each.1 h.1)
+  IsHomogeneous-inner weights degrees d (t ∷ ts) each h = (
+    (
+      h.0.0,
+      ap (λ e. e +ℤ neg_ℤ (pos (monomial_degree weights b))) h.0.1 ∙ sym
+          (place_degree-inner weights degrees t.at each.0),
+    ),
+    IsHomogeneous-inner weights degrees d ts each.1 h.1,
+  )
 
   pub IsVector-outer_part : (ring : Ring) (degrees : List ℤ) (v : Vector) → IsVector ring degrees v
       → IsVector ring degrees (outer_part ring.weights n b v)

@@ -21,7 +21,8 @@ module _ (n : ℕ) where
   IsRowInVariables-outer_terms : (ts : List (Term Place)) → IsRowInVariables n (outer_terms n one ts)
   IsRowInVariables-outer_terms ts =
       AllByRecursion-map _ (inner_term n) (filter (is_at_outer n one) ts)
-      (AllByRecursion-always _ (λ (t : Term Place). IsInVariables-outer n (inner n t.at.monomial) (outer-inner_same n (inner n t.at.monomial) (inner-inner n t.at.monomial)))
+      (AllByRecursion-always _ (λ (t : Term Place). IsInVariables-outer n (inner n t.at.monomial)
+      (outer-inner_same n (inner n t.at.monomial) (inner-inner n t.at.monomial)))
       (filter (is_at_outer n one) ts))
 
   -- over n variables a row is its part without an outer one
@@ -43,7 +44,8 @@ module _ (n : ℕ) where
       let c = h.coefficients in
       let d : Vector = record { degree = c.degree; terms = outer_terms n one c.terms } in (
         d,
-        subst (λ e. IsVector m.ring (row_degrees m) (record { degree = e; terms = d.terms })) (degree-one m.ring.weights c.degree) (IsVector-outer_part n one m.ring (row_degrees m) c h.homogeneous),
+        subst (λ e. IsVector m.ring (row_degrees m) (record { degree = e; terms = d.terms }))
+            (degree-one m.ring.weights c.degree) (IsVector-outer_part n one m.ring (row_degrees m) c h.homogeneous),
         IsRowInVariables-outer_terms c.terms,
         (λ i. record {
           degree = (h.value i).degree;

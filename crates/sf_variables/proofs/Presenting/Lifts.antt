@@ -39,7 +39,8 @@ outer_terms-none n b other [] h = refl
 outer_terms-none n b other (t ∷ ts) h =
     elim (cases_Bool (is_at_outer n b t)) [
       | inl here ↦ absurd
-          (other (sym ((Decides-same_exponents (outer n t.at.monomial) b).0 here) ∙ outer-IsInVariables n t.at.monomial h.0))
+          (other (sym ((Decides-same_exponents (outer n t.at.monomial) b).0 here)
+          ∙ outer-IsInVariables n t.at.monomial h.0))
       | inr elsewhere ↦ outer_terms-elsewhere n b t ts elsewhere ∙ outer_terms-none n b other ts h.1
     ]
 
@@ -103,8 +104,13 @@ module _ (n : ℕ) (m : Matrix) (positive : IsRing m.ring) (keeps : IsMatrixInVa
           (IsCanonical-negative (place_cmp m.ring.weights) p us parts) in
           let back : negative p (outer_terms n b (row_sum m.ring v.terms (negative p w.terms))) ≡ us =
           ap (negative p) terms ∙ negative-negative (place_cmp m.ring.weights) p us parts.residues in
-          subst (InSpan m) (λ i. record { degree = (outer_part m.ring.weights n b (record { degree = degree i; terms = [] })).degree; terms = back i })
-          (span-negative (outer_part m.ring.weights n b (vector_difference m.ring v w)) (span_parts n m positive.modulus keeps b (vector_difference m.ring v w) differ))
+          subst (InSpan m) (λ i. record {
+            degree =
+                (outer_part m.ring.weights n b (record { degree = degree i; terms = [] })).degree;
+            terms = back i;
+          })
+          (span-negative (outer_part m.ring.weights n b (vector_difference m.ring v w))
+          (span_parts n m positive.modulus keeps b (vector_difference m.ring v w) differ))
 
 -- the coordinates of a vector, the first block of its lift
 pub coordinates_in_variables : (n : ℕ) (generators base : Matrix) → IsRing generators.ring
@@ -112,7 +118,8 @@ pub coordinates_in_variables : (n : ℕ) (generators base : Matrix) → IsRing g
     → IsLift (stacked generators base) v c → IsVectorInVariables n (vector_part 0 (length generators.rows) c)
 coordinates_in_variables n generators base positive h k v c inside lift =
     IsRowInVariables-part n 0 (length generators.rows) c.terms
-    (lift_in_variables n (stacked generators base) positive (IsMatrixInVariables-stacked n generators base h k) v c inside lift)
+    (lift_in_variables n (stacked generators base) positive
+    (IsMatrixInVariables-stacked n generators base h k) v c inside lift)
 
 -- the rest of a division by the basis of a span, which differs by the combination with the quotients
 pub rest_in_variables : (n : ℕ) (m : Matrix) → IsRing m.ring → IsMatrix m → IsMatrixInVariables n m

@@ -32,7 +32,8 @@ module _ (n : ℕ) (m : Matrix) (positive : IsRing m.ring) (keeps : IsMatrixInVa
   pub span_in_variables : HasBasesInVariables m.ring.weights n (InSpan m)
   span_in_variables =
       basis_in_variables n m.ring positive.weights (InSpan m)
-      (λ v h. subst (λ (w : Vector). IsCanonicalRow m.ring w.terms) h.value (IsCanonical-row_combination m.ring positive.modulus m.rows h.coefficients.terms))
+      (λ v h. subst (λ (w : Vector). IsCanonicalRow m.ring w.terms) h.value
+      (IsCanonical-row_combination m.ring positive.modulus m.rows h.coefficients.terms))
       (span_parts n m positive.modulus keeps)
 
   pub relations_in_variables : (B : Vector → Type 0) → HasOuterParts m.ring.weights n B
@@ -56,8 +57,10 @@ pub first_blocks_in_variables : (n : ℕ) (a b : Matrix) → IsRing a.ring → I
     → IsMatrixInVariables n b → HasBasesInVariables a.ring.weights n (IsFirstBlock a b)
 first_blocks_in_variables n a b positive h k =
     basis_in_variables n a.ring positive.weights (IsFirstBlock a b)
-    (λ v f. subst (λ (w : Vector). IsCanonicalRow a.ring w.terms) f.part (IsCanonical-part_terms a.ring 0 (length a.rows) f.whole.terms f.inside.coefficients.canonical))
-    (first_part_parts a.ring.weights n (length a.rows) (IsSyzygy (stacked a b)) (syzygy_parts n (stacked a b) positive.modulus (IsMatrixInVariables-stacked n a b h k)))
+    (λ v f. subst (λ (w : Vector). IsCanonicalRow a.ring w.terms) f.part
+    (IsCanonical-part_terms a.ring 0 (length a.rows) f.whole.terms f.inside.coefficients.canonical))
+    (first_part_parts a.ring.weights n (length a.rows) (IsSyzygy (stacked a b))
+    (syzygy_parts n (stacked a b) positive.modulus (IsMatrixInVariables-stacked n a b h k)))
 
 -- all vectors of a free module
 pub any_in_variables : (n : ℕ) (ring : Ring) → IsRing ring → (degrees : List ℤ)

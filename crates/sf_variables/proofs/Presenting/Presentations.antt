@@ -59,7 +59,8 @@ module _ (n : ℕ) where
       → (g r : Matrix) → IsImage target map g r → AreBothInVariables n g r
   image_in_variables target map positive same zeros rows =
       presentation_in_variables target.ring positive target.target (InSpan (stacked map target)) (InSpan target)
-      (span_in_variables_of n target.ring positive (stacked map target) same (IsMatrixInVariables-stacked n map target rows zeros))
+      (span_in_variables_of n target.ring positive (stacked map target) same
+      (IsMatrixInVariables-stacked n map target rows zeros))
       (span_parts_of n target.ring positive target refl zeros)
 
   pub cokernel_in_variables : (target map : Matrix) → IsRing target.ring → map.ring ≡ target.ring
@@ -69,14 +70,16 @@ module _ (n : ℕ) where
       presentation_in_variables target.ring positive target.target (IsAny target.ring target.target)
       (InSpan (stacked map target))
       (any_in_variables n target.ring positive target.target)
-      (span_parts_of n target.ring positive (stacked map target) same (IsMatrixInVariables-stacked n map target rows zeros))
+      (span_parts_of n target.ring positive (stacked map target) same
+      (IsMatrixInVariables-stacked n map target rows zeros))
 
   steps_in_variables : (before : Matrix) → IsRing before.ring → IsMatrixInVariables n before → (steps : List Matrix)
       → AreNextSteps before steps → AllByRecursion (IsMatrixInVariables n) steps
   steps_in_variables before positive keeps [] h = tt
   steps_in_variables before positive keeps (step ∷ steps) h =
       let here : IsMatrixInVariables n step =
-      minimal_in_variables before.ring n (IsSyzygy before) IsZero (syzygies_in_variables n before positive keeps) step.rows h.0.minimal in
+      minimal_in_variables before.ring n (IsSyzygy before) IsZero
+      (syzygies_in_variables n before positive keeps) step.rows h.0.minimal in
       (here, steps_in_variables step (subst IsRing (sym h.0.ring) positive) here steps h.1)
 
   pub resolution_in_variables : (relations : Matrix) → IsRing relations.ring → IsMatrixInVariables n relations
@@ -84,5 +87,6 @@ module _ (n : ℕ) where
   resolution_in_variables relations positive keeps [] h = tt
   resolution_in_variables relations positive keeps (step ∷ steps) h =
       let here : IsMatrixInVariables n step =
-      minimal_in_variables relations.ring n (InSpan relations) IsZero (span_in_variables n relations positive keeps) step.rows h.0.minimal in
+      minimal_in_variables relations.ring n (InSpan relations) IsZero
+      (span_in_variables n relations positive keeps) step.rows h.0.minimal in
       (here, steps_in_variables step (subst IsRing (sym h.0.ring) positive) here steps h.1)

@@ -8,10 +8,13 @@ returns c = record {
   graph = graph_in_variables;
   span = span_in_variables;
   syzygies = syzygies_in_variables;
-  relations = λ n m base positive same h k. relations_in_variables n m positive h (InSpan base) (span_parts_of n m.ring positive base same k);
+  relations = λ n m base positive same h k. relations_in_variables n m positive h (InSpan base)
+      (span_parts_of n m.ring positive base same k);
   first_blocks = first_blocks_in_variables;
-  minimal_span = λ n m base positive h. minimal_in_variables m.ring n (InSpan m) (InSpan base) (span_in_variables n m positive h);
-  minimal_syzygies = λ n m positive h. minimal_in_variables m.ring n (IsSyzygy m) IsZero (syzygies_in_variables n m positive h);
+  minimal_span = λ n m base positive h. minimal_in_variables m.ring n (InSpan m) (InSpan base)
+      (span_in_variables n m positive h);
+  minimal_syzygies = λ n m positive h. minimal_in_variables m.ring n (IsSyzygy m) IsZero
+      (syzygies_in_variables n m positive h);
   minimal_relations = λ n m base positive same h k. minimal_in_variables m.ring n (IsRelation m (InSpan base)) IsZero
       (relations_in_variables n m positive h (InSpan base) (span_parts_of n m.ring positive base same k));
 }
