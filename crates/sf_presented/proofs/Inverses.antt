@@ -98,8 +98,7 @@ same_reduced_rows relations positive matrix (v ∷ vs) (w ∷ ws) h k r s e =
     let rest = same_reduced_rows relations positive matrix vs ws h.1 k.1 r.1 s.1 e.1 in
     λ i. first i ∷ rest i
 
-module _ (first second to : Matrix) (prime : IsOverField first.ring) (first_matrix : IsMatrix first)
-    (second_matrix : IsMatrix second) where
+module _ (first second to : Matrix) (prime : IsOverField first.ring) (first_matrix : IsMatrix first) where
   abbrev ring : Ring
   ring = first.ring
 
@@ -113,8 +112,8 @@ module _ (first second to : Matrix) (prime : IsOverField first.ring) (first_matr
     second_ring : second.ring ≡ ring
     second_ring = sym to_map.target_ring ∙ to_map.source_ring
 
-    inside_second : IsSubmodule ring second.target (InSpan second)
-    inside_second = span_submodule_of ring positive second.target second second_ring refl second_matrix
+    inside_second : IsMatrix second → IsSubmodule ring second.target (InSpan second)
+    inside_second second_matrix = span_submodule_of ring positive second.target second second_ring refl second_matrix
 
     -- a vector over the target of the second
     over_second : (v : Vector) → IsVector second.ring second.target v → IsVector ring second.target v
@@ -125,7 +124,7 @@ module _ (first second to : Matrix) (prime : IsOverField first.ring) (first_matr
         IsVector-combined ring positive to to_map.source_ring to_map.matrix first.target second.target
         to_map.source_degrees to_map.target_degrees v h
 
-  module _ (from : Matrix) (h : AreInverseModulo first second to from) where
+  module _ (second_matrix : IsMatrix second) (from : Matrix) (h : AreInverseModulo first second to from) where
     from_rows : AllByRecursion (IsVector ring first.target) from.rows
     from_rows =
         subst (λ q. AllByRecursion (IsVector q first.target) from.rows) h.from_map.target_ring
@@ -169,7 +168,8 @@ module _ (first second to : Matrix) (prime : IsOverField first.ring) (first_matr
       sends = λ v k.
           AreEqualModulo-inside ring positive first.target (InSpan first) inside_first.module_like (combined from v)
           (combined inverse v)
-          (canonical-inverse v) (from-equal v ((inside_second h.to_map).module_like.vectors v k)) (h.from_map.sends v k);
+          (canonical-inverse v) (from-equal v ((inside_second h.to_map second_matrix).module_like.vectors v k))
+          (h.from_map.sends v k);
     }
 
     to_positive : IsRing to.ring

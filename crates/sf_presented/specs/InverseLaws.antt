@@ -23,7 +23,7 @@ HasReducedInverse =
 -- and only one
 abbrev pub HasOneReducedInverse : Type 0
 HasOneReducedInverse =
-    (first second to a b : Matrix) → IsOverField first.ring → IsMatrix first → IsMatrix second
+    (first second to a b : Matrix) → IsOverField first.ring → IsMatrix first
     → AreInverseModulo first second to a → AreInverseModulo first second to b
     → AllByRecursion (IsReducedByRelations first) a.rows → AllByRecursion (IsReducedByRelations first) b.rows → a ≡ b
 

@@ -6,6 +6,7 @@ use Rattle.sf_algebra.specs.MatrixOperations.{stacked}
 use Rattle.sf_algebra.specs.Rings.{IsRing, IsOverField}
 use Rattle.sf_algebra.specs.Vectors.{Vector}
 use Rattle.sf_groebner.specs.Homology.{ComplexPlace, IsComplexPlace, IsAny, IsCycle, IsHomology, IsKernel, IsImage, IsCokernel}
+use Rattle.sf_groebner.specs.MinimalGenerators.{IsInSum}
 use Rattle.sf_groebner.specs.Presentations.{IsModuleMap}
 use Rattle.sf_groebner.specs.Resolutions.{IsFirstStep, IsNextStep, IsResolution}
 use Rattle.sf_groebner.specs.Spans.{InSpan, IsSyzygy}
@@ -36,6 +37,29 @@ abbrev pub PresentsHomology : Type 0
 PresentsHomology =
     (place : ComplexPlace) → IsOverField place.here.ring → IsComplexPlace place → (g r : Matrix) → IsHomology place g r
     → IsPresentedBy (IsCycle place.out place.beyond) (InSpan (stacked place.arriving place.here)) g r
+
+-- a combination of the generators of a kernel and a vector of the relations of the source have a cycle as their sum
+abbrev pub HasSumsInKernel : Type 0
+HasSumsInKernel =
+    (source target map : Matrix) → IsOverField source.ring → IsMatrix source → IsMatrix target
+    → IsModuleMap source target map → (g r : Matrix) → IsKernel source target map g r
+    → (v : Vector) → IsInSum g.ring g.rows (InSpan source) v → IsCycle map target v
+
+-- such sums of an image are in the span of map and relations
+abbrev pub HasSumsInImage : Type 0
+HasSumsInImage =
+    (source target map : Matrix) → IsOverField target.ring → IsMatrix target → IsModuleMap source target map
+    → (g r : Matrix) → IsImage target map g r
+    → (v : Vector) → IsInSum g.ring g.rows (InSpan target) v → InSpan (stacked map target) v
+
+-- and of a homology where what arrives, and the relations there, are cycles
+abbrev pub HasSumsInHomology : Type 0
+HasSumsInHomology =
+    (place : ComplexPlace) → IsOverField place.here.ring → IsComplexPlace place
+    → ((v : Vector) → InSpan (stacked place.arriving place.here) v → IsCycle place.out place.beyond v)
+    → (g r : Matrix) → IsHomology place g r
+    → (v : Vector) → IsInSum g.ring g.rows (InSpan (stacked place.arriving place.here)) v
+    → IsCycle place.out place.beyond v
 
 -- the rows of the first step of a resolution span the relations
 abbrev pub SpansRelations : Type 0

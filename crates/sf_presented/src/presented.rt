@@ -1,4 +1,4 @@
-ghost use Rattle.sf_presented.specs.PresentedLaws.{PresentsKernel, PresentsImage, PresentsCokernel, PresentsHomology, SpansRelations, SpansSyzygies, HasExactResolutions, HasMatrixKernel, HasMatrixImage, HasMatrixCokernel};
+ghost use Rattle.sf_presented.specs.PresentedLaws.{PresentsKernel, PresentsImage, PresentsCokernel, PresentsHomology, HasSumsInKernel, HasSumsInImage, HasSumsInHomology, SpansRelations, SpansSyzygies, HasExactResolutions, HasMatrixKernel, HasMatrixImage, HasMatrixCokernel};
 
 /// Modulo a prime the generators of kernels, images, cokernels and homology generate, and their relations span all relations.
 pub fn presentations_present()
@@ -6,6 +6,9 @@ pub fn presentations_present()
     ensures image { PresentsImage }
     ensures cokernel { PresentsCokernel }
     ensures homology { PresentsHomology }
+    ensures kernel_sums { HasSumsInKernel }
+    ensures image_sums { HasSumsInImage }
+    ensures homology_sums { HasSumsInHomology }
 {}
 
 /// Modulo a prime the rows of the first step of a resolution span the relations, and those of each other the syzygies before.

@@ -4,5 +4,5 @@ use Rattle.sf_presented.proofs.inverse.inverses_are_unique.Goals as goal
 pub returns : goal.returns
 returns c = record {
   exists = λ first second to from prime matrix other. reduced_inverse first second to prime matrix other from;
-  unique = λ first second to a b prime matrix other. unique_reduced_inverse first second to prime matrix other a b;
+  unique = λ first second to a b prime matrix. unique_reduced_inverse first second to prime matrix a b;
 }

@@ -1,4 +1,4 @@
-use Rattle.sf_presented.proofs.Generating.{presented-kernel, presented-image, presented-cokernel, presented-homology}
+use Rattle.sf_presented.proofs.Generating.{presented-kernel, presented-image, presented-cokernel, presented-homology, sums-kernel, sums-image, sums-homology}
 use Rattle.sf_presented.proofs.presented.presentations_present.Goals as goal
 
 pub returns : goal.returns
@@ -7,4 +7,7 @@ returns c = record {
   image = presented-image;
   cokernel = presented-cokernel;
   homology = presented-homology;
+  kernel_sums = sums-kernel;
+  image_sums = sums-image;
+  homology_sums = sums-homology;
 }
