@@ -129,10 +129,10 @@ rest_in_variables n m positive matrix keeps basis h v rest quotients inside e =
     let taken = row_combination m.ring basis quotients.terms in
     let terms : taken ≡ row_sum m.ring v.terms (negative m.ring.modulus rest.terms) =
     sym (add-negative_front (place_keys m.ring.weights) m.ring.modulus positive.modulus taken rest.terms
-    (IsCanonical-row_combination m.ring positive.modulus basis quotients.terms) e.rest_vector.canonical)
+    (IsCanonical-row_combination m.ring positive.modulus basis quotients.terms) e.divided.vector.canonical)
     ∙ ap (λ ts. row_sum m.ring ts (negative m.ring.modulus rest.terms))
-    (row_sum-comm m.ring positive.modulus taken rest.terms ∙ e.sum) in
-    reduced_vector_in_variables n m positive keeps v rest inside (sym e.rest_degree) e.rest_vector.canonical
+    (row_sum-comm m.ring positive.modulus taken rest.terms ∙ e.divided.sum) in
+    reduced_vector_in_variables n m positive keeps v rest inside (sym e.rest_degree) e.divided.vector.canonical
     (subst (InSpan m) (λ i. record { degree = e.quotients_degree i; terms = terms i })
     ((span_submodule m positive matrix).combinations basis h.inside quotients.degree quotients.terms e.coefficients.homogeneous))
-    (record { basis = basis; reduced_basis = h; reduced = e.reduced })
+    (record { basis = basis; reduced_basis = h; reduced = e.divided.reduced })
