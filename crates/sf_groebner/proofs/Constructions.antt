@@ -13,6 +13,7 @@ pub mod LargeMatrices
 pub mod LargeGrowth
 pub mod FinishedBases
 pub mod Rests
+pub mod NoRests
 pub mod LiftExistence
 pub mod Reductions
 pub mod OwnSpans

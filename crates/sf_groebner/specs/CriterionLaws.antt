@@ -8,7 +8,7 @@ use Rattle.sf_algebra.specs.MatrixOperations.{row_at, row_combination}
 use Rattle.sf_algebra.specs.Rings.{Ring, IsRing}
 use Rattle.sf_algebra.specs.Terms.{Term}
 use Rattle.sf_algebra.specs.Vectors.{Place, Vector, place_cmp}
-use Rattle.sf_groebner.specs.Criterion.{HaveLeadsAtOnePosition, IsMonicRow, IsPairSyzygy, ReducesToZero, lcm_place, lead_at, s_vector, IsPair, IsGroebnerBasis, HasReducingPairs, HasDegreeUpTo}
+use Rattle.sf_groebner.specs.Criterion.{HaveLeadsAtOnePosition, IsForRows, IsMonicRow, IsPairSyzygy, ReducesToZero, lcm_place, lead_at, s_vector, IsPair, IsGroebnerBasis, HasReducingPairs, HasDegreeUpTo}
 use Rattle.sf_groebner.specs.Divisions.{IsDivided}
 use Rattle.sf_groebner.specs.Leads.{PlaceDivides}
 use Rattle.sf_groebner.specs.ReducedBases.{HasDividedLead}
@@ -48,6 +48,14 @@ ReducesByDivisions =
     → (i j : ℕ) → IsPair m.rows i j
     → (d : ℤ) (quotients : List (Term Place)) → IsDivided m.ring m.target m.rows d (s_vector m.ring m.rows i j) [] quotients
     → ReducesToZero m.ring m.rows i j
+
+-- and by a Gröbner basis the divisions of all combinations of homogeneous rows, so of all S-vectors, leave no rest
+abbrev pub LeavesNoRests : Type 0
+LeavesNoRests =
+    (m : Matrix) → IsRing m.ring → IsGroebnerBasis m.ring m.rows
+    → (c : List (Term Place)) → AllByRecursion (IsForRows m.rows) c
+    → (d : ℤ) (rest quotients : List (Term Place)) → IsDivided m.ring m.target m.rows d (row_combination m.ring m.rows c) rest quotients
+    → rest ≡ []
 
 -- the chain criterion: a pair reduces to zero where the lead of a row divides its least common multiple, and its pairs
 -- with that row do

@@ -1,4 +1,4 @@
-ghost use Rattle.sf_groebner.specs.CriterionLaws.{CancelsLeads, DropsChains, HasPairSyzygies, IsBuchbergersCriterion, IsCriterionUpToDegree, ReducesByDivisions, SpansSyzygies, TakesEitherOrder};
+ghost use Rattle.sf_groebner.specs.CriterionLaws.{CancelsLeads, DropsChains, HasPairSyzygies, IsBuchbergersCriterion, IsCriterionUpToDegree, LeavesNoRests, ReducesByDivisions, SpansSyzygies, TakesEitherOrder};
 
 /// Monic rows are a Gröbner basis of what they span exactly where the S-vectors of their pairs reduce to zero.
 pub fn pairs_decide_bases()
@@ -7,6 +7,7 @@ pub fn pairs_decide_bases()
     ensures leads { CancelsLeads }
     ensures either_order { TakesEitherOrder }
     ensures divisions { ReducesByDivisions }
+    ensures rests { LeavesNoRests }
     ensures chains { DropsChains }
 {}
 

@@ -138,25 +138,31 @@ module _ (ring : Ring) (positive : IsRing ring) (target : List ℤ) (N : Vector 
       next d = omega (arith, ints)
 
 module _ (ring : Ring) (positive : IsRing ring) (N : Vector → Type 0) (generators rows : List Vector) where
+  -- other pairs may wait, where each pair of rows that no longer does reduces to zero
+  pub replace_pending : (pending left : List (ℕ × ℕ)) (waiting : List ℕ)
+      → IsGrowing ring N generators rows pending waiting
+      → ((i j : ℕ) → IsPair rows i j → IsWaiting i j pending → IsWaiting i j left ⊎ ReducesToZero ring rows i j)
+      → IsGrowing ring N generators rows left waiting
+  replace_pending pending left waiting g f = record {
+    monic = g.monic;
+    pairs = IsPending-fewer ring positive rows pending left f g.pairs;
+    reached = g.reached;
+    needed = g.needed;
+    distinct = g.distinct;
+  }
+
   -- a pair that reduces to zero no longer waits
   pub drop_pair : (before after : List (ℕ × ℕ)) (i j : ℕ) (waiting : List ℕ)
       → IsGrowing ring N generators rows (before ++ (i, j) ∷ after) waiting
       → (IsPair rows i j → ReducesToZero ring rows i j)
       → IsGrowing ring N generators rows (before ++ after) waiting
-  drop_pair before after i j waiting g r = record {
-    monic = g.monic;
-    pairs =
-        IsPending-fewer ring positive rows (before ++ (i, j) ∷ after) (before ++ after)
-        (λ k l pair item.
-        ⊎_elim
-        (λ (same : (k, l) ≡ (i, j)). inr (subst (λ (x : ℕ × ℕ). ReducesToZero ring rows x.0 x.1) (sym same) (r (subst (λ (x : ℕ × ℕ). IsPair rows x.0 x.1) same pair))))
-        (λ (other : IsWaiting k l (before ++ after)). inl other)
-        (IsItem-others {X = ℕ × ℕ} (i, j) before after (k, l) item))
-        g.pairs;
-    reached = g.reached;
-    needed = g.needed;
-    distinct = g.distinct;
-  }
+  drop_pair before after i j waiting g r =
+      replace_pending (before ++ (i, j) ∷ after) (before ++ after) waiting g
+      (λ k l pair item.
+      ⊎_elim
+      (λ (same : (k, l) ≡ (i, j)). inr (subst (λ (x : ℕ × ℕ). ReducesToZero ring rows x.0 x.1) (sym same) (r (subst (λ (x : ℕ × ℕ). IsPair rows x.0 x.1) same pair))))
+      (λ (other : IsWaiting k l (before ++ after)). inl other)
+      (IsItem-others {X = ℕ × ℕ} (i, j) before after (k, l) item))
 
   -- nor does a generator that is a combination of the rows
   pub drop_generator : (pending : List (ℕ × ℕ)) (before after : List ℕ) (k : ℕ)

@@ -18,7 +18,7 @@ use Rattle.sf_groebner.specs.Leads.{PlaceDivides}
 use Rattle.sf_groebner.specs.NeededLeads.{IsNeeded}
 use Rattle.sf_groebner.specs.ReducedBases.{is_divided}
 use Rattle.sf_groebner.proofs.Constructions.Completions.{IsMonicIn}
-use Rattle.sf_groebner.proofs.Constructions.MonicVectors.{IsMonicVector}
+use Rattle.sf_groebner.proofs.Constructions.MonicVectors.{AllByRecursion-row_at, IsMonicVector}
 use Rattle.sf_groebner.proofs.PairLoops.GrowingBases.{IsGrowing, IsItem-others, IsLowest, complete_below, drop_generator, drop_pair, grow}
 use Rattle.sf_groebner.proofs.PairLoops.GrowingRows.{ReducesToZero-new_row}
 use Rattle.sf_groebner.proofs.PairLoops.HomogeneousPairs.{ReducesToZero-division, s_coefficients-homogeneous}
@@ -122,6 +122,9 @@ module _ (ring : Ring) (positive : IsRing ring) (target : List ℤ) (N : Vector 
         ReducesToZero-new_row ring positive rows i j (t ∷ ts)
         (record { steps = q; below = bound.1; sum = e.sum }) i_in pair.later v t.coefficient r.back less))
 
+  generator-inside : (k : ℕ) → k < length generators → N (row_vector generators k)
+  generator-inside = AllByRecursion-row_at (λ d ts. N (record { degree = d; terms = ts })) generators generate.inside
+
   module _ (pending : List (ℕ × ℕ)) (before after : List ℕ) (k : ℕ)
       (g : IsGrowing ring N generators rows pending (before ++ k ∷ after)) where
     -- a generator has no rest
@@ -139,13 +142,14 @@ module _ (ring : Ring) (positive : IsRing ring) (target : List ℤ) (N : Vector 
         })
 
     -- it has one
-    pub generator_grown : N (row_vector generators k)
+    pub generator_grown : k < length generators
         → IsLowest ring.weights target generators rows pending (before ++ k ∷ after) (generator_degree (degrees_of generators) k)
         → (t : Term Place) (ts q : List (Term Place))
         → IsDivided ring target rows (generator_degree (degrees_of generators) k) (row_at generators k) (t ∷ ts) q
         → (v : Vector) → IsMonicRest ring N (generator_degree (degrees_of generators) k) t ts v
         → IsGrowing ring N generators (rows ++ v ∷ []) (pending ++ pairs_before (length rows) (length rows)) (before ++ after)
-    generator_grown inside low t ts q e v r =
+    generator_grown within low t ts q e v r =
+        let inside = generator-inside k within in
         let d : ℤ = generator_degree (degrees_of generators) k in
         let more : List Vector = rows ++ v ∷ [] in
         let rest =

@@ -1,5 +1,6 @@
 use Rattle.std.proofs.Common.{ℕ, ◌<◌, arith}
 use Rattle.sf_groebner.proofs.Constructions.MonicVectors.{IsMonicVector-rows}
+use Rattle.sf_groebner.proofs.Constructions.NoRests.{no_rest}
 use Rattle.sf_groebner.proofs.PairLoops.HomogeneousPairs.{ReducesToZero-division}
 use Rattle.sf_groebner.proofs.PairTheorems.BoundedCriterion.{buchberger_up_to}
 use Rattle.sf_groebner.proofs.PairTheorems.Buchberger.{ReducesToZero-chain, ReducesToZero-sym, buchberger}
@@ -26,5 +27,6 @@ returns c = record {
   divisions = λ m positive is_matrix monic i j pair d quotients e.
       ReducesToZero-division m.ring positive m.target m.rows (IsMonicVector-rows m.ring m.target m.rows is_matrix monic)
       i j (before i j _ pair.earlier pair.later) pair.later pair.positions d quotients e;
+  rests = no_rest;
   chains = ReducesToZero-chain;
 }
