@@ -1,9 +1,9 @@
 -- What holds of Kronecker products of sums, of zeros and of matrices side by side. (Any textbook of linear algebra.)
 use Rattle.std.specs.Prelude.{◌≡◌, ◌<◌, List, ℤ}
 use Rattle.sf_algebra.specs.Matrices.{Matrix, row_degrees, IsMatrix}
-use Rattle.sf_algebra.specs.MatrixOperations.{kronecker, degree_sums}
+use Rattle.sf_algebra.specs.MatrixOperations.{identity, matrix_product, negated, kronecker, degree_sums}
 use Rattle.sf_algebra.specs.Rings.{Ring}
-use Rattle.sf_blocks.specs.MatrixSums.{AreParallel, matrix_sum, zero_matrix}
+use Rattle.sf_blocks.specs.MatrixSums.{AreParallel, matrix_sum, zero_matrix, IsZeroMatrix}
 use Rattle.sf_blocks.specs.SideBySide.{AreBeside, beside}
 
 -- a sum as the first factor gives a sum
@@ -37,3 +37,20 @@ abbrev pub KeepsMatricesBeside : Type 0
 KeepsMatricesBeside =
     (a b c : Matrix) → 0 < a.ring.modulus → AreBeside a b → a.ring ≡ c.ring → IsMatrix a → IsMatrix c
     → kronecker (beside a b) c ≡ beside (kronecker a c) (kronecker b c)
+
+-- a factor before the other and after it cancel, where one map of the second factor has a sign: so the maps of the
+-- bicomplex of two complexes anticommute
+abbrev pub CancelsCrossings : Type 0
+CancelsCrossings =
+    (a b : Matrix) → 1 < a.ring.modulus → a.ring ≡ b.ring → IsMatrix a → IsMatrix b
+    → IsZeroMatrix (matrix_sum
+    (matrix_product (kronecker (identity a.ring (row_degrees a)) b) (kronecker a (identity a.ring b.target)))
+    (matrix_product (kronecker a (identity a.ring (row_degrees b))) (negated (kronecker (identity a.ring a.target) b))))
+
+-- and so they do where the other has it
+abbrev pub CancelsOtherCrossings : Type 0
+CancelsOtherCrossings =
+    (a b : Matrix) → 1 < a.ring.modulus → a.ring ≡ b.ring → IsMatrix a → IsMatrix b
+    → IsZeroMatrix (matrix_sum
+    (matrix_product (negated (kronecker (identity a.ring (row_degrees a)) b)) (kronecker a (identity a.ring b.target)))
+    (matrix_product (kronecker a (identity a.ring (row_degrees b))) (kronecker (identity a.ring a.target) b)))
