@@ -20,7 +20,7 @@ use Rattle.sf_groebner.proofs.Spanning.Submodules.{IsSubmodule}
 
 module _ (m : Matrix) (positive : IsRing m.ring) where
   -- combinations of syzygies give 0
-  syzygies-zero : (rows : List Vector) → AllByRecursion (IsSyzygy m) rows → (c : List (Term Place))
+  pub syzygies-zero : (rows : List Vector) → AllByRecursion (IsSyzygy m) rows → (c : List (Term Place))
       → row_combination m.ring m.rows (row_combination m.ring rows c) ≡ []
   syzygies-zero rows inside c =
       let ring = m.ring in

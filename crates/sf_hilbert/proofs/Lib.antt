@@ -1,0 +1,4 @@
+pub mod Kept
+pub mod Minimality
+pub mod Exactness
+pub mod WithoutRows

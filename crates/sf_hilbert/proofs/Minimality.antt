@@ -1,0 +1,3 @@
+-- Why syzygies of minimal generators have no constants.
+pub mod Generators
+pub mod Constants
