@@ -2,3 +2,4 @@ pub mod Kept
 pub mod Minimality
 pub mod Exactness
 pub mod WithoutRows
+pub mod ThreeVariables

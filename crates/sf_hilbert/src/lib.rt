@@ -6,4 +6,4 @@
 
 mod bound;
 
-pub use bound::resolutions_end_after_the_variables;
+pub use bound::{resolution_of_residue_field, resolutions_end_after_the_variables};
