@@ -52,11 +52,11 @@ total_differential ring (s ∷ ss) =
     (zero_matrix ring (total_source ss) s.vertical.target) (total_differential ring ss)
 
 -- the spots of the second diagonal are those below the spots of the first
-abbrev pub AreBelow : List Spot → List Spot → Type 0
-AreBelow [] [] = ⊤
-AreBelow (s ∷ ss) (t ∷ ts) = (row_degrees t.vertical ≡ s.vertical.target) × AreBelow ss ts
-AreBelow [] (t ∷ ts) = ⊥
-AreBelow (s ∷ ss) [] = ⊥
+abbrev pub AreSpotsBelow : List Spot → List Spot → Type 0
+AreSpotsBelow [] [] = ⊤
+AreSpotsBelow (s ∷ ss) (t ∷ ts) = (row_degrees t.vertical ≡ s.vertical.target) × AreSpotsBelow ss ts
+AreSpotsBelow [] (t ∷ ts) = ⊥
+AreSpotsBelow (s ∷ ss) [] = ⊥
 
 -- the laws of a bicomplex from a spot s, where t is the spot below, and the one at the left the first of the others:
 -- dv dv = 0, dv dh + dh dv = 0 and dh dh = 0

@@ -6,7 +6,7 @@ use Rattle.sf_algebra.specs.Rings.{Ring, IsRing}
 use Rattle.sf_blocks.specs.BlockLists.{IsTo}
 use Rattle.sf_blocks.specs.DirectSums.{IsZeroModulo}
 use Rattle.sf_blocks.specs.MatrixSums.{IsZeroMatrix}
-use Rattle.sf_blocks.specs.TotalDifferentials.{Spot, AreDiagonal, AreBelow, HasBicomplexLaws, total_source, total_target, total_differential}
+use Rattle.sf_blocks.specs.TotalDifferentials.{Spot, AreDiagonal, AreSpotsBelow, HasBicomplexLaws, total_source, total_target, total_differential}
 use Rattle.sf_blocks.specs.TotalRelations.{total_relations, AreRelationsBelow, HasBicomplexLawsModulo}
 
 -- a total differential is a matrix from the free modules of a diagonal together to those below them together
@@ -20,7 +20,7 @@ HasTotalDifferentials =
 -- two of them, one after the other, are zero exactly where the laws of a bicomplex hold
 abbrev pub SquaresToZero : Type 0
 SquaresToZero =
-    (ring : Ring) (ss ts : List Spot) → 0 < ring.modulus → AreDiagonal ring ss → AreDiagonal ring ts → AreBelow ss ts
+    (ring : Ring) (ss ts : List Spot) → 0 < ring.modulus → AreDiagonal ring ss → AreDiagonal ring ts → AreSpotsBelow ss ts
     → IsZeroMatrix (matrix_product (total_differential ring ss) (total_differential ring ts)) ↔ HasBicomplexLaws ss ts
 
 -- the relations of the modules of a diagonal together are a matrix to their free modules together
@@ -34,6 +34,6 @@ HasTotalRelations =
 abbrev pub SquaresToZeroModulo : Type 0
 SquaresToZeroModulo =
     (ring : Ring) (ss ts : List Spot) (rs : List Matrix) → IsRing ring → AreDiagonal ring ss → AreDiagonal ring ts
-    → AreBelow ss ts → AreRelationsBelow ring ts rs
+    → AreSpotsBelow ss ts → AreRelationsBelow ring ts rs
     → IsZeroModulo (total_relations ring rs) (matrix_product (total_differential ring ss) (total_differential ring ts))
     ↔ HasBicomplexLawsModulo ss ts rs

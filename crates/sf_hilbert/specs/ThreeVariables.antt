@@ -5,13 +5,8 @@ use Rattle.sf_algebra.specs.Matrices.{Matrix}
 use Rattle.sf_algebra.specs.Rings.{plain}
 use Rattle.sf_algebra.specs.Vectors.{Vector}
 use Rattle.sf_groebner.specs.Examples.{term, vector}
+use Rattle.sf_groebner.specs.ResolutionExamples.{x_row, y_row}
 use Rattle.sf_groebner.specs.Resolutions.{IsResolution}
-
-abbrev pub x_row : Vector
-x_row = vector 1 (term 1 0 (1 ∷ []) ∷ [])
-
-abbrev pub y_row : Vector
-y_row = vector 1 (term 1 0 (0 ∷ 1 ∷ []) ∷ [])
 
 abbrev pub z_row : Vector
 z_row = vector 1 (term 1 0 (0 ∷ 0 ∷ 1 ∷ []) ∷ [])

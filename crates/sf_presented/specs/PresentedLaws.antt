@@ -68,8 +68,8 @@ SpansRelations =
     → (v : Vector) → InSpan step v ↔ InSpan relations v
 
 -- those of each other step the syzygies of the step before
-abbrev pub SpansSyzygies : Type 0
-SpansSyzygies =
+abbrev pub SpansSyzygiesOfStep : Type 0
+SpansSyzygiesOfStep =
     (before step : Matrix) → IsOverField before.ring → IsNextStep before step → (c : Vector) → InSpan step c
     ↔ IsSyzygy before c
 

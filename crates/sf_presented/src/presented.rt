@@ -1,4 +1,4 @@
-ghost use Rattle.sf_presented.specs.PresentedLaws.{PresentsKernel, PresentsImage, PresentsCokernel, PresentsHomology, HasSumsInKernel, HasSumsInImage, HasSumsInHomology, SpansRelations, SpansSyzygies, HasExactResolutions, HasMatrixKernel, HasMatrixImage, HasMatrixCokernel};
+ghost use Rattle.sf_presented.specs.PresentedLaws.{PresentsKernel, PresentsImage, PresentsCokernel, PresentsHomology, HasSumsInKernel, HasSumsInImage, HasSumsInHomology, SpansRelations, SpansSyzygiesOfStep, HasExactResolutions, HasMatrixKernel, HasMatrixImage, HasMatrixCokernel};
 
 /// Modulo a prime the generators of kernels, images, cokernels and homology generate, and their relations span all relations.
 pub fn presentations_present()
@@ -14,7 +14,7 @@ pub fn presentations_present()
 /// Modulo a prime the rows of the first step of a resolution span the relations, and those of each other the syzygies before.
 pub fn resolutions_are_exact()
     ensures first { SpansRelations }
-    ensures next { SpansSyzygies }
+    ensures next { SpansSyzygiesOfStep }
     ensures whole { HasExactResolutions }
 {}
 

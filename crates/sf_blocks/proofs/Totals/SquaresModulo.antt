@@ -8,7 +8,7 @@ use Rattle.sf_blocks.specs.BlockLists.{IsTo}
 use Rattle.sf_blocks.specs.DirectSums.{direct_sum, AreRelations, IsZeroModulo}
 use Rattle.sf_blocks.specs.MatrixSums.{zero_matrix, IsZeroMatrix}
 use Rattle.sf_blocks.specs.SideBySide.{beside}
-use Rattle.sf_blocks.specs.TotalDifferentials.{Spot, IsSpot, AreDiagonal, AreBelow, first_target, total_target, total_differential}
+use Rattle.sf_blocks.specs.TotalDifferentials.{Spot, IsSpot, AreDiagonal, AreSpotsBelow, first_target, total_target, total_differential}
 use Rattle.sf_blocks.specs.TotalRelations.{total_relations, AreRelationsBelow, HasLawsModuloAt, HasBicomplexLawsModulo}
 use Rattle.sf_blocks.proofs.DirectSums.SummandSpans.{AreTriangle-direct_sum}
 use Rattle.sf_blocks.proofs.DirectSums.ZeroModulo.{IsZeroModulo-beside, IsZeroModulo-stacked, IsZeroModulo-zero}
@@ -74,7 +74,7 @@ module _ (ring : Ring) (is_ring : IsRing ring) where
   -- where the maps of one spot and of the one at its left go
   corner_modulo : (s t l u : Spot) (ss ts : List Spot) (rs : List Matrix) (hs : IsSpot ring l.vertical.target s)
       (ht : IsSpot ring u.vertical.target t) (dss : AreDiagonal ring (l ∷ ss)) (dts : AreDiagonal ring (u ∷ ts))
-      (below : row_degrees t.vertical ≡ s.vertical.target) (others : AreBelow (l ∷ ss) (u ∷ ts)) (r : Matrix)
+      (below : row_degrees t.vertical ≡ s.vertical.target) (others : AreSpotsBelow (l ∷ ss) (u ∷ ts)) (r : Matrix)
       → AreRelationsBelow ring (t ∷ u ∷ ts) (r ∷ rs)
       → (IsZeroModulo r (matrix_product s.vertical t.vertical)
       × IsZeroModulo (total_relations ring rs)
@@ -123,7 +123,7 @@ module _ (ring : Ring) (is_ring : IsRing ring) where
   laws_modulo : (s t : Spot) (ss ts : List Spot) (hs : IsSpot ring (first_target ss) s)
       (ht : IsSpot ring (first_target ts) t)
       (dss : AreDiagonal ring ss) (dts : AreDiagonal ring ts) (below : row_degrees t.vertical ≡ s.vertical.target)
-      (others : AreBelow ss ts) (r : Matrix) (rs : List Matrix) → AreRelationsBelow ring (t ∷ ts) (r ∷ rs)
+      (others : AreSpotsBelow ss ts) (r : Matrix) (rs : List Matrix) → AreRelationsBelow ring (t ∷ ts) (r ∷ rs)
       → (IsZeroModulo r (matrix_product s.vertical t.vertical)
       × IsZeroModulo (total_relations ring rs) (corner ring is_ring.modulus s t ss ts hs ht dss dts below others))
       ↔ HasLawsModuloAt s t ts (r ∷ rs)
@@ -142,7 +142,7 @@ module _ (ring : Ring) (is_ring : IsRing ring) where
       corner_modulo s t l u ss ts rs hs ht dss dts below others r k
 
   pub squares-total_modulo : (ss ts : List Spot) (rs : List Matrix) → AreDiagonal ring ss → AreDiagonal ring ts
-      → AreBelow ss ts → AreRelationsBelow ring ts rs
+      → AreSpotsBelow ss ts → AreRelationsBelow ring ts rs
       → IsZeroModulo (total_relations ring rs) (matrix_product (total_differential ring ss) (total_differential ring ts))
       ↔ HasBicomplexLawsModulo ss ts rs
   squares-total_modulo [] [] rs dss dts below k = (λ h. tt, λ h. tt)

@@ -5,7 +5,7 @@ use Rattle.sf_algebra.specs.Matrices.{Matrix, row_degrees, IsMatrix}
 use Rattle.sf_algebra.specs.Rings.{Ring}
 use Rattle.sf_blocks.specs.MatrixSums.{zero_matrix}
 use Rattle.sf_blocks.specs.SideBySide.{AreBeside, AreBlocks}
-use Rattle.sf_blocks.specs.TotalDifferentials.{Spot, IsSpot, AreDiagonal, AreBelow, first_target, total_source, total_target, total_differential, widened}
+use Rattle.sf_blocks.specs.TotalDifferentials.{Spot, IsSpot, AreDiagonal, AreSpotsBelow, first_target, total_source, total_target, total_differential, widened}
 use Rattle.sf_blocks.proofs.MatrixSums.SumGroups.{row_degrees-zero_matrix, IsMatrix-zero_matrix}
 use Rattle.sf_blocks.proofs.SideBySide.Beside.{row_degrees-beside, IsMatrix-beside}
 use Rattle.sf_blocks.proofs.TwoByTwo.Blocks.{row_degrees-blocks, IsMatrix-blocks}
@@ -91,7 +91,7 @@ total ring [] h = record { ring_of = refl; source = refl; target = refl; matrix 
 total ring (s ∷ ss) h = IsTotal-cons ring s ss h.0 (total ring ss h.1)
 
 -- where a diagonal goes
-pub total_source-below : (ss ts : List Spot) → AreBelow ss ts → total_source ts ≡ total_target ss
+pub total_source-below : (ss ts : List Spot) → AreSpotsBelow ss ts → total_source ts ≡ total_target ss
 total_source-below [] [] h = refl
 total_source-below [] (t ∷ ts) h = absurd h
 total_source-below (s ∷ ss) [] h = absurd h

@@ -9,7 +9,7 @@ use Rattle.sf_algebra.proofs.GradedMatrices.MatrixProducts.{IsMatrix-matrix_prod
 use Rattle.sf_algebra.proofs.GradedMatrices.MatrixRows.{StandsWithin, IsWithin-matrix_row}
 use Rattle.sf_blocks.specs.MatrixSums.{AreParallel, matrix_sum, zero_matrix, IsZeroMatrix}
 use Rattle.sf_blocks.specs.SideBySide.{AreBeside, beside, blocks}
-use Rattle.sf_blocks.specs.TotalDifferentials.{Spot, IsSpot, AreDiagonal, AreBelow, first_target, total_source, total_target, total_differential, widened}
+use Rattle.sf_blocks.specs.TotalDifferentials.{Spot, IsSpot, AreDiagonal, AreSpotsBelow, first_target, total_source, total_target, total_differential, widened}
 use Rattle.sf_blocks.proofs.MatrixSums.SumGroups.{row_degrees-matrix_sum, IsMatrix-matrix_sum, row_degrees-zero_matrix, IsMatrix-zero_matrix, same_zero}
 use Rattle.sf_blocks.proofs.SideBySide.Beside.{IsMatrix-beside}
 use Rattle.sf_blocks.proofs.SideBySide.BesideLaws.{matrix_sum-beside}
@@ -58,7 +58,7 @@ module _ (a m : Matrix) (target : List ℤ) (x : IsComposable a m) (ma : IsMatri
 -- the upper right block of the product
 module _ (ring : Ring) (positive : 0 < ring.modulus) (s t : Spot) (ss ts : List Spot)
     (hs : IsSpot ring (first_target ss) s) (ht : IsSpot ring (first_target ts) t) (dss : AreDiagonal ring ss)
-    (dts : AreDiagonal ring ts) (below : row_degrees t.vertical ≡ s.vertical.target) (others : AreBelow ss ts) where
+    (dts : AreDiagonal ring ts) (below : row_degrees t.vertical ≡ s.vertical.target) (others : AreSpotsBelow ss ts) where
   abbrev pub corner : Matrix
   corner =
       matrix_sum (matrix_product s.vertical (widened (total_target ts) t.horizontal))
@@ -194,7 +194,7 @@ module _ (ring : Ring) (positive : 0 < ring.modulus) (s t : Spot) (ss ts : List 
 module _ (ring : Ring) (positive : 0 < ring.modulus) (s t l u : Spot) (ss ts : List Spot)
     (hs : IsSpot ring l.vertical.target s) (ht : IsSpot ring u.vertical.target t) (dss : AreDiagonal ring (l ∷ ss))
     (dts : AreDiagonal ring (u ∷ ts)) (below : row_degrees t.vertical ≡ s.vertical.target)
-    (others : AreBelow (l ∷ ss) (u ∷ ts)) where
+    (others : AreSpotsBelow (l ∷ ss) (u ∷ ts)) where
   -- the corner is (dv dh + dh dv, dh dh, 0)
   pub corner_pairs : IsPair (corner ring positive s t (l ∷ ss) (u ∷ ts) hs ht dss dts below others)
       (matrix_sum (matrix_product s.vertical t.horizontal) (matrix_product s.horizontal u.vertical))

@@ -4,7 +4,7 @@ use Rattle.sf_algebra.specs.Matrices.{Matrix, row_degrees}
 use Rattle.sf_algebra.specs.MatrixOperations.{matrix_product}
 use Rattle.sf_algebra.specs.Rings.{Ring}
 use Rattle.sf_blocks.specs.MatrixSums.{IsZeroMatrix}
-use Rattle.sf_blocks.specs.TotalDifferentials.{Spot, IsSpot, AreDiagonal, AreBelow, HasLawsAt, HasBicomplexLaws, first_target, total_differential}
+use Rattle.sf_blocks.specs.TotalDifferentials.{Spot, IsSpot, AreDiagonal, AreSpotsBelow, HasLawsAt, HasBicomplexLaws, first_target, total_differential}
 use Rattle.sf_blocks.proofs.Totals.TotalProducts.{IsOfBlocks, IsPair, corner, product_blocks, corner-none, corner_pairs}
 use Rattle.sf_blocks.proofs.TwoByTwo.Triangles.{IsZeroMatrix-blocks}
 use Rattle.sf_blocks.proofs.TwoByTwo.ZeroParts.{IsZeroMatrix-beside}
@@ -24,7 +24,7 @@ module _ (ring : Ring) (positive : 0 < ring.modulus) where
   -- the laws from one spot are that two of the blocks are zero
   laws_at : (s t : Spot) (ss ts : List Spot) (hs : IsSpot ring (first_target ss) s) (ht : IsSpot ring (first_target ts) t)
       (dss : AreDiagonal ring ss) (dts : AreDiagonal ring ts) (below : row_degrees t.vertical ≡ s.vertical.target)
-      (others : AreBelow ss ts)
+      (others : AreSpotsBelow ss ts)
       → (IsZeroMatrix (matrix_product s.vertical t.vertical)
       × IsZeroMatrix (corner ring positive s t ss ts hs ht dss dts below others)) ↔ HasLawsAt s t ts
   laws_at s t [] [] hs ht dss dts below others =
@@ -39,7 +39,7 @@ module _ (ring : Ring) (positive : 0 < ring.modulus) where
         λ h. (h.0, first.1 (h.1.0, second.1 (h.1.1, p.1.1))),
       )
 
-  pub squares-total : (ss ts : List Spot) → AreDiagonal ring ss → AreDiagonal ring ts → AreBelow ss ts
+  pub squares-total : (ss ts : List Spot) → AreDiagonal ring ss → AreDiagonal ring ts → AreSpotsBelow ss ts
       → IsZeroMatrix (matrix_product (total_differential ring ss) (total_differential ring ts)) ↔ HasBicomplexLaws ss ts
   squares-total [] [] dss dts below = (λ h. tt, λ h. refl)
   squares-total [] (t ∷ ts) dss dts below = absurd below

@@ -11,10 +11,11 @@ use Rattle.sf_algebra.specs.Vectors.{Vector, IsVector}
 use Rattle.sf_groebner.specs.Criterion.{HaveLeadsAtOnePosition, ReducesToZero}
 use Rattle.sf_groebner.specs.Examples.{term, vector}
 use Rattle.sf_groebner.specs.ReducedBases.{IsReducedBasis}
+use Rattle.sf_groebner.specs.ResolutionExamples.{x_row, y_row}
 use Rattle.sf_groebner.specs.Spans.{graph_degrees, InSpan, IsGraphVector, IsSyzygy}
 use Rattle.sf_groebner.proofs.PartsOfBases.GraphParts.{reduced-span, reduced-syzygies}
 use Rattle.sf_groebner.proofs.WorkedExamples.GraphBases.{IsGraphCandidate, reduced_graph}
-use Rattle.sf_hilbert.specs.ThreeVariables.{x_row, y_row, z_row, three_variables, xy_row, xz_row, yz_row, pairs_of_variables, xyz_row}
+use Rattle.sf_hilbert.specs.ThreeVariables.{z_row, three_variables, xy_row, xz_row, yz_row, pairs_of_variables, xyz_row}
 
 variables-matrix : IsMatrix three_variables
 variables-matrix = search (arith, ints)

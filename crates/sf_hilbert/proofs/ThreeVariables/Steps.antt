@@ -14,11 +14,12 @@ use Rattle.sf_groebner.specs.Criterion.{HaveLeadsAtOnePosition, IsMonicRow, Redu
 use Rattle.sf_groebner.specs.MinimalGenerators.{AreMinimal, IsInSum, matrix_of}
 use Rattle.sf_groebner.specs.Presentations.{IsZero}
 use Rattle.sf_groebner.specs.ReducedBases.{HasDividedLead}
+use Rattle.sf_groebner.specs.ResolutionExamples.{x_row, y_row}
 use Rattle.sf_groebner.specs.Spans.{InSpan, IsSyzygy}
 use Rattle.sf_groebner.proofs.PairTheorems.BoundedCriterion.{buchberger_up_to}
 use Rattle.sf_groebner.proofs.PairTheorems.MonicSums.{not_in_sum, no_syzygies}
 use Rattle.sf_groebner.proofs.Uniqueness.KeptGenerators.{IsSumAt-from}
-use Rattle.sf_hilbert.specs.ThreeVariables.{x_row, y_row, z_row, three_variables, xy_row, xz_row, yz_row, pairs_of_variables, xyz_row, all_variables, HasThreeSteps}
+use Rattle.sf_hilbert.specs.ThreeVariables.{z_row, three_variables, xy_row, xz_row, yz_row, pairs_of_variables, xyz_row, all_variables, HasThreeSteps}
 use Rattle.sf_hilbert.proofs.ThreeVariables.Graphs.{variables-span, variables-syzygies, pairs-syzygies}
 
 -- no variable is a combination of those before it
