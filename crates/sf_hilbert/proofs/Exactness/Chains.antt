@@ -1,27 +1,21 @@
 -- The steps of a resolution, over one ring: exact modulo no variable, and modulo one more from one step later on.
 use Rattle.std.proofs.Common.{◌≡◌, ℕ, zero, suc, ◌+◌, ◌<◌, ◌≤◌, true, List, [], ◌∷◌, ◌++◌, drop, filter, refl, sym, ◌∙◌, ap, subst, arith}
 use Rattle.std.specs.List.{AllByRecursion}
-use Rattle.sf_algebra.specs.Matrices.{Matrix, row_degrees, IsMatrix}
+use Rattle.sf_algebra.specs.Matrices.{Matrix, row_degrees, IsMatrix, degrees_of}
 use Rattle.sf_algebra.specs.MatrixOperations.{row_combination}
 use Rattle.sf_algebra.specs.Monomials.{VARIABLES, variable}
 use Rattle.sf_algebra.specs.Rings.{Ring, IsRing, IsOverField}
-use Rattle.sf_algebra.specs.Terms.{Term}
-use Rattle.sf_algebra.specs.VectorOperations.{row_sum}
-use Rattle.sf_algebra.specs.Vectors.{Place, Vector, IsCanonicalRow}
+use Rattle.sf_algebra.specs.Vectors.{Vector, IsVector}
 use Rattle.sf_algebra.proofs.Basics.Lists.{AllByRecursion-weaken}
 use Rattle.sf_algebra.proofs.Monomials.Weights.{field_ring}
-use Rattle.sf_algebra.proofs.Vectors.RowSums.{row_sum-nil_first}
-use Rattle.sf_algebra.proofs.Vectors.Rows.{IsCanonical-row_combination}
 use Rattle.sf_groebner.specs.MinimalGenerators.{AreMinimal, matrix_of}
 use Rattle.sf_groebner.specs.Presentations.{IsZero}
 use Rattle.sf_groebner.specs.Spans.{IsSyzygy}
 use Rattle.sf_groebner.proofs.Constructions.MatrixBases.{syzygy_basis}
 use Rattle.sf_groebner.proofs.Constructions.MinimalExistence.{minimal_modulo_zero}
 use Rattle.sf_groebner.proofs.Spanning.SyzygyCombinations.{syzygies-zero, syzygy_submodule}
-use Rattle.sf_groebner.proofs.Uniqueness.GeneratingBases.{AreMinimal-generate}
-use Rattle.sf_groebner.proofs.Uniqueness.KeptGenerators.{IsSumAt-from}
 use Rattle.sf_groebner.proofs.Uniqueness.PresentedModules.{minimal-inside}
-use Rattle.sf_groebner.proofs.Uniqueness.ReducedCoordinates.{zero_submodule}
+use Rattle.sf_groebner.proofs.Uniqueness.ReducedCoordinates.{InSpan-minimal}
 use Rattle.sf_hilbert.specs.Exactness.{AreAllExact, AreExactModulo, IsExactModulo, is_free_of, is_without, kept}
 use Rattle.sf_hilbert.proofs.Exactness.Step.{AreSyzygies, IsExactModulo-step}
 use Rattle.sf_hilbert.proofs.Kept.Variables.{IsDividedBy-variable, is_free_of-multiplicative, is_free_of-variable, is_without-variable}
@@ -62,20 +56,14 @@ module _ (ring : Ring) (field : IsOverField ring) where
         let v : Vector = record { degree = d; terms = c } in
         let syzygy : IsSyzygy (over ring before) v =
         record { coefficients = vector; zero = sym (filter-all (row_combination ring before.rows c)) ∙ nil } in
-        let whole =
-        AreMinimal-generate ring field (row_degrees before) (IsSyzygy (over ring before)) IsZero
-        (syzygy_submodule (over ring before) positive) (zero_submodule ring positive (row_degrees before)) rows minimal
-        v syzygy in
-        let at = IsSumAt-from ring (row_degrees before) IsZero rows v whole in (
-          at.coefficients,
-          at.vector,
-          ap (kept (is_free_of 0)) (sym (sum-first at.first (row_combination ring rows at.coefficients) at.inside
-              (IsCanonical-row_combination ring positive.modulus rows at.coefficients)) ∙ at.sum),
+        let spanned =
+        InSpan-minimal ring field (row_degrees before) (IsSyzygy (over ring before))
+        (syzygy_submodule (over ring before) positive) rows minimal v syzygy in (
+          spanned.coefficients.terms,
+          subst (λ e. IsVector ring (degrees_of rows) (record { degree = e; terms = spanned.coefficients.terms }))
+              (ap (λ (w : Vector). w.degree) spanned.value) spanned.homogeneous,
+          ap (λ (w : Vector). kept (is_free_of 0) w.terms) spanned.value,
         )
-      where
-        sum-first : (us vs : List (Term Place)) → us ≡ [] → IsCanonicalRow ring vs → row_sum ring us vs ≡ vs
-        sum-first us vs none canonical =
-            ap (λ ts. row_sum ring ts vs) none ∙ row_sum-nil_first ring positive.modulus vs canonical
 
   pub AreExactModulo-none : (before : Matrix) (steps : List Matrix) → AreSteps ring before steps
       → AreExactModulo ring (is_free_of 0) before steps

@@ -16,6 +16,7 @@ use Rattle.sf_groebner.specs.Presentations.{IsZero}
 use Rattle.sf_groebner.specs.ReducedBases.{IsSorted, row_cmp}
 use Rattle.sf_groebner.proofs.Spanning.SumsAndMultiples.{zero_closed}
 use Rattle.sf_groebner.proofs.Uniqueness.KeptGenerators.{AreKept-chosen}
+use Rattle.sf_groebner.proofs.Uniqueness.PresentedModules.{AllByRecursion-kept}
 
 -- no degree is greater than one after it
 abbrev pub IsAscending : List Vector → Type 0
@@ -49,20 +50,13 @@ IsAscending-sorted weights (v ∷ vs) h =
     (AllByRecursion-weaken _ _ (λ w less. row_cmp-degree weights v w less) vs h.0, IsAscending-sorted weights vs h.1)
 
 module _ (ring : Ring) (B : Vector → Type 0) where
-  each-kept : (P : Vector → Type 0) (earlier vs kept : List Vector) → AllByRecursion P vs
-      → AreKept ring B earlier vs kept → AllByRecursion P kept
-  each-kept P earlier [] kept h k = subst (AllByRecursion P) (sym k) tt
-  each-kept P earlier (v ∷ vs) kept h (inl k) = each-kept P (earlier ++ v ∷ []) vs kept h.1 k.1
-  each-kept P earlier (v ∷ vs) kept h (inr k) =
-      subst (AllByRecursion P) (sym k.1.1) (h.0, each-kept P (earlier ++ v ∷ []) vs k.1.0 h.1 k.1.2)
-
   IsAscending-kept : (earlier vs kept : List Vector) → IsAscending vs → AreKept ring B earlier vs kept
       → IsAscending kept
   IsAscending-kept earlier [] kept h k = subst IsAscending (sym k) tt
   IsAscending-kept earlier (v ∷ vs) kept h (inl k) = IsAscending-kept (earlier ++ v ∷ []) vs kept h.1 k.1
   IsAscending-kept earlier (v ∷ vs) kept h (inr k) =
       subst IsAscending (sym k.1.1) (
-        each-kept (λ (w : Vector). v.degree ≤ℤ w.degree) (earlier ++ v ∷ []) vs k.1.0 h.0 k.1.2,
+        AllByRecursion-kept ring [] (λ (w : Vector). v.degree ≤ℤ w.degree) B (earlier ++ v ∷ []) vs k.1.0 h.0 k.1.2,
         IsAscending-kept (earlier ++ v ∷ []) vs k.1.0 h.1 k.1.2,
       )
 

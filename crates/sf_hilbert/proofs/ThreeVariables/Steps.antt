@@ -1,15 +1,10 @@
 -- The steps of the resolution: what is needed at each, and that there is no further one.
-use Rattle.std.proofs.Common.{◌≡◌, ℕ, zero, suc, ◌<◌, List, [], ◌∷◌, length, inr, refl, sym, ◌∙◌, ap, subst, arith, ℤ, pos, ◌≤ℤ◌}
+use Rattle.std.proofs.Common.{◌≡◌, ℕ, zero, suc, ◌<◌, List, [], ◌∷◌, length, inr, refl, ap, subst, arith, ℤ, pos, ◌≤ℤ◌}
 use Rattle.std.proofs.lemmas.Int.{ints}
 use Rattle.std.specs.List.{AllByRecursion}
 use Rattle.sf_algebra.specs.Matrices.{IsMatrix}
-use Rattle.sf_algebra.specs.MatrixOperations.{row_combination}
 use Rattle.sf_algebra.specs.Rings.{plain, ones}
-use Rattle.sf_algebra.specs.Terms.{Term}
-use Rattle.sf_algebra.specs.VectorOperations.{row_sum}
-use Rattle.sf_algebra.specs.Vectors.{Place, Vector, IsCanonicalRow, place_degree}
-use Rattle.sf_algebra.proofs.Vectors.RowSums.{row_sum-nil_first}
-use Rattle.sf_algebra.proofs.Vectors.Rows.{IsCanonical-row_combination}
+use Rattle.sf_algebra.specs.Vectors.{Vector, place_degree}
 use Rattle.sf_groebner.specs.Criterion.{HaveLeadsAtOnePosition, IsMonicRow, ReducesToZero, lcm_place, lead_at}
 use Rattle.sf_groebner.specs.MinimalGenerators.{AreMinimal, IsInSum, matrix_of}
 use Rattle.sf_groebner.specs.Presentations.{IsZero}
@@ -18,7 +13,7 @@ use Rattle.sf_groebner.specs.ResolutionExamples.{x_row, y_row}
 use Rattle.sf_groebner.specs.Spans.{InSpan, IsSyzygy}
 use Rattle.sf_groebner.proofs.PairTheorems.BoundedCriterion.{buchberger_up_to}
 use Rattle.sf_groebner.proofs.PairTheorems.MonicSums.{not_in_sum, no_syzygies}
-use Rattle.sf_groebner.proofs.Uniqueness.KeptGenerators.{IsSumAt-from}
+use Rattle.sf_groebner.proofs.Uniqueness.ReducedCoordinates.{InSpan-sum}
 use Rattle.sf_hilbert.specs.ThreeVariables.{z_row, three_variables, xy_row, xz_row, yz_row, pairs_of_variables, xyz_row, all_variables, HasThreeSteps}
 use Rattle.sf_hilbert.proofs.ThreeVariables.Graphs.{variables-span, variables-syzygies, pairs-syzygies}
 
@@ -39,18 +34,11 @@ not_in_low_sum : (rows : List Vector) (target : List ℤ) → IsMatrix (matrix_o
     → place_degree ones target (lcm_place (lead_at rows) i j) ≤ℤ v.degree → ReducesToZero (plain 101) rows i j)
     → (HasDividedLead rows v.terms → ⊥) → IsInSum (plain 101) rows IsZero v → ⊥
 not_in_low_sum rows target matrix monic v pairs none h =
-    let at = IsSumAt-from (plain 101) target IsZero rows v h in
-    let terms : row_combination (plain 101) rows at.coefficients ≡ v.terms =
-    sym (sum-first at.first (row_combination (plain 101) rows at.coefficients) at.inside
-    (IsCanonical-row_combination (plain 101) (omega arith) rows at.coefficients)) ∙ at.sum in
-    none (subst (HasDividedLead rows) terms
-    (buchberger_up_to (matrix_of (plain 101) target rows) matrix monic (omega arith) v.degree pairs
-    (record { degree = v.degree; terms = at.coefficients }) at.vector (omega (arith, ints))))
-  where
-    sum-first : (us vs : List (Term Place)) → us ≡ [] → IsCanonicalRow (plain 101) vs
-        → row_sum (plain 101) us vs ≡ vs
-    sum-first us vs nil canonical =
-        ap (λ ts. row_sum (plain 101) ts vs) nil ∙ row_sum-nil_first (plain 101) (omega arith) vs canonical
+    let spanned = InSpan-sum (matrix_of (plain 101) target rows) (omega arith) v h in
+    let degree : spanned.coefficients.degree ≡ v.degree = ap (λ (w : Vector). w.degree) spanned.value in
+    none (subst (λ (w : Vector). HasDividedLead rows w.terms) spanned.value
+    (buchberger_up_to (matrix_of (plain 101) target rows) matrix monic (omega arith) v.degree pairs spanned.coefficients
+    spanned.homogeneous (omega (arith, ints, degree))))
 
 z_needed : IsInSum (plain 101) (x_row ∷ y_row ∷ []) IsZero z_row → ⊥
 z_needed =
