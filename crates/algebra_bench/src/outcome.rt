@@ -1,4 +1,4 @@
-ghost use Rattle.std.specs.Prelude.{◌≡◌, length};
+ghost use Rattle.std.specs.Prelude.{◌≡◌, ◌%◌, ◌^◌, length, sum_by};
 
 use sf_matrix::{Matrix, Vector};
 use sf_poly::Poly;
@@ -43,8 +43,10 @@ impl Outcome {
         }
     }
 
-    /// That of a matrix.
-    pub fn of_matrix(matrix: &Matrix) -> Outcome {
+    /// That of a matrix; the number of its terms is taken modulo 2^64.
+    pub fn of_matrix(matrix: &Matrix) -> Outcome
+        ensures terms { result.terms ≡ sum_by (λ v. length v.terms) matrix.now.rows % 2 ^ 64 }
+    {
         let mut terms = 0_usize;
         let mut checksum = 0_u32;
         for i in 0..matrix.rows() {
