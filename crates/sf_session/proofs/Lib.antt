@@ -1,16 +1,5 @@
-pub mod Cuts
-pub mod Digits
-pub mod Names
 pub mod Modules
+pub mod Variables
 pub mod SoFar
 pub mod OneReply
 pub mod OneOutput
-pub mod JoinedItems
-pub mod PrintedTerms
-pub mod PrintedRows
-pub mod Signs
-pub mod SmallTerms
-pub mod PlacedTerms
-pub mod PlacedRows
-pub mod Definitions
-pub mod Variables

@@ -4,7 +4,7 @@ use Rattle.std.specs.Str.{bytes_eq}
 use Rattle.indexmap.specs.IndexMap.{IndexMap, insert_entry}
 use Rattle.indexmap.proofs.CallerLemmas.{insert_entry-new}
 use Rattle.sf_algebra.specs.Matrices.{Matrix}
-use Rattle.sf_session.specs.State.{module_named}
+use Rattle.sf_script.specs.Refusals.{module_named}
 
 None-from_is_none : {X : Type 0} (o : Option X) → is_none o ≡ true → o ≡ None
 None-from_is_none None e = refl

@@ -2,16 +2,19 @@
 use Rattle.std.proofs.Common.{◌≡◌, ℕ, List, [], Bool, true, false, Option, Some, None, Result, Ok, Err, refl}
 use Rattle.std.specs.Prelude.{MatchOption, MatchResult}
 use Rattle.std.specs.Bool.{MatchBool}
-use Rattle.sf_session.specs.Grammar.{line_of}
-use Rattle.sf_session.specs.Refusals.{refusal_text, definition}
-use Rattle.sf_session.specs.Replies.{Says, Refused, Carried, Answered, Step, syntax_text}
-use Rattle.sf_session.specs.State.{State, ring_of, opens, enters, module_named}
-use Rattle.sf_session.specs.declared.command.Command.TheVariants.{Spectral, Ring, Module, Show, Later}
-use Rattle.sf_session.specs.declared.command.Command.{Command}
-use Rattle.sf_session.specs.declared.command.Line.TheVariants.{Silent, Malformed, Read}
-use Rattle.sf_session.specs.declared.command.Line.{Line}
-use Rattle.sf_session.specs.declared.refusal.Refusal.TheVariants.{Unbuilt, Heading, Unknown}
-use Rattle.sf_session.specs.declared.refusal.Refusal.{Refusal}
+use Rattle.sf_script.specs.Grammar.{line_of}
+use Rattle.sf_script.specs.Headings.{ring_of, opens, enters}
+use Rattle.sf_script.specs.Refusals.{module_named, definition}
+use Rattle.sf_script.specs.declared.command.Command.TheVariants.{Spectral, Ring, Module, Show, Later}
+use Rattle.sf_script.specs.declared.command.Command.{Command}
+use Rattle.sf_script.specs.declared.command.Line.TheVariants.{Silent, Malformed, Read}
+use Rattle.sf_script.specs.declared.command.Line.{Line}
+use Rattle.sf_script.specs.declared.refusal.Refusal.TheVariants.{Unbuilt, Heading, Unknown}
+use Rattle.sf_script.specs.declared.refusal.Refusal.{Refusal}
+use Rattle.sf_reply.specs.Texts.{reply_text}
+use Rattle.sf_reply.specs.declared.reply.Reply.TheVariants as told
+use Rattle.sf_session.specs.Replies.{Gives, Says, Refused, Carried, Answered, Step}
+use Rattle.sf_session.specs.State.{State}
 
 -- a relation between a reply and a state that exactly one pair meets
 pub record IsOne (P : List ℕ → State → Type 0) : Type 0 where
@@ -20,7 +23,7 @@ pub record IsOne (P : List ℕ → State → Type 0) : Type 0 where
   pub met : P reply state
   pub only : (other : List ℕ) (new : State) → P other new → (other ≡ reply) × (new ≡ state)
 
-pub IsOne-Gives : (text : List ℕ) (after : State) → IsOne (Says text after)
+pub IsOne-Gives : (text : List ℕ) (after : State) → IsOne (Gives text after)
 IsOne-Gives text after = record { reply = text; state = after; met = (refl, refl); only = λ other new h. h }
 
 pub IsOne-MatchBool : (b : Bool) {P Q : List ℕ → State → Type 0} → IsOne P → IsOne Q
@@ -42,7 +45,7 @@ IsOne-MatchResult (Ok x) p q = p x
 IsOne-MatchResult (Err e) p q = q e
 
 refused : (refusal : Refusal) (old : State) → IsOne (Refused refusal old)
-refused refusal old = IsOne-Gives (refusal_text refusal) old
+refused refusal old = IsOne-Gives (reply_text (told.Refused refusal)) old
 
 pub IsOne-Carried : (command : Command) (old : State) → IsOne (Carried command old)
 IsOne-Carried (Spectral version) old = IsOne-MatchBool (opens old.heads version) (IsOne-Gives _ _) (refused Heading old)
@@ -59,7 +62,7 @@ IsOne-Carried Later old = refused Unbuilt old
 
 pub IsOne-Answered : (line : Line) (old : State) → IsOne (Answered line old)
 IsOne-Answered Silent old = IsOne-Gives [] old
-IsOne-Answered Malformed old = IsOne-Gives syntax_text old
+IsOne-Answered Malformed old = IsOne-Gives (reply_text told.Malformed) old
 IsOne-Answered (Read command) old = IsOne-Carried command old
 
 pub IsOne-Step : (old : State) (line : List ℕ) → IsOne (Step old line)

@@ -12,15 +12,17 @@ use Rattle.sf_algebra.proofs.Basics.Lists.{AllByRecursion-append}
 use Rattle.sf_algebra.proofs.Terms.Normal.{EachPlace-normal}
 use Rattle.sf_variables.specs.Variables.{IsInVariables, IsRowInVariables, AreInVariables, IsMatrixInVariables}
 use Rattle.sf_variables.proofs.Keeping.Monomials.{AreZero-drop}
-use Rattle.sf_session.specs.Placed.{exponent_in, first_fault, has_shape, monomial_of, placed_term, placed_terms, relations_of, row_vector}
-use Rattle.sf_session.specs.Raw.{RawTerm}
-use Rattle.sf_session.specs.Refusals.{refused_if, unless_refused, first_unknown, definition}
-use Rattle.sf_session.specs.State.{is_degree, module_named, ring_of, KeepsToVariables}
-use Rattle.sf_session.specs.declared.heads.Heads.TheVariants.{Unopened, Opened, Within}
-use Rattle.sf_session.specs.declared.heads.Heads.{Heads}
-use Rattle.sf_session.specs.declared.heads.Ring.{Ring}
-use Rattle.sf_session.specs.declared.refusal.Refusal.TheVariants.{Unknown, Taken, Shape, Degree, Range}
-use Rattle.sf_session.specs.declared.refusal.Refusal.{Refusal}
+use Rattle.sf_text.specs.Placed.{exponent_in, first_fault, has_shape, monomial_of, placed_term, placed_terms, relations_of, row_vector}
+use Rattle.sf_text.specs.Raw.{RawTerm}
+use Rattle.sf_text.specs.Unknowns.{first_unknown}
+use Rattle.sf_script.specs.Headings.{ring_of}
+use Rattle.sf_script.specs.Refusals.{refused_if, unless_refused, is_degree, module_named, definition}
+use Rattle.sf_session.specs.State.{KeepsToVariables}
+use Rattle.sf_script.specs.declared.heads.Heads.TheVariants.{Unopened, Opened, Within}
+use Rattle.sf_script.specs.declared.heads.Heads.{Heads}
+use Rattle.sf_text.specs.declared.ring.Ring.{Ring}
+use Rattle.sf_script.specs.declared.refusal.Refusal.TheVariants.{Unknown, Taken, Shape, Degree, Range}
+use Rattle.sf_script.specs.declared.refusal.Refusal.{Refusal}
 
 -- the exponents that a list lacks are 0
 IsInVariables-from_exponents : (es : List ℕ) → IsInVariables (length es) (from_exponents es)

@@ -1,12 +1,4 @@
-pub mod Words
-pub mod Grammar
 pub mod State
-pub mod Refusals
 pub mod Replies
 pub mod Scripts
 pub mod Laws
-pub mod Joins
-pub mod Columns
-pub mod Raw
-pub mod MatrixText
-pub mod Placed

@@ -6,9 +6,9 @@ ghost use Rattle.sf_session.specs.State.{start};
 ghost use Rattle.sf_session.specs.Scripts.{LONGEST, IsOutput, IsFront, IsWholeFront, Outcome, IsReadLength};
 
 use crate::session::Session;
-use crate::words::next_line;
 use sf_io::{ReadError, Sink, Source, read_all, write_all};
 use sf_pairs::Strategy;
+use sf_text::next_line;
 use std::alloc::Global;
 
 /// The greatest number of bytes of a script.

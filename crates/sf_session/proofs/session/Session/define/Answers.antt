@@ -1,6 +1,7 @@
 use Rattle.std.proofs.Common.{rules, ◌≡◌, Ok, [], ◌∷◌, ◌++◌, subst, sym}
-use Rattle.sf_session.specs.Refusals.{definition}
-use Rattle.sf_session.specs.State.{ring_of, KeepsToVariables}
+use Rattle.sf_script.specs.Headings.{ring_of}
+use Rattle.sf_script.specs.Refusals.{definition}
+use Rattle.sf_session.specs.State.{KeepsToVariables}
 use Rattle.sf_session.proofs.Variables.{KeepsToVariables-defined}
 use Rattle.sf_session.proofs.session.Session.define.Goals as goal
 

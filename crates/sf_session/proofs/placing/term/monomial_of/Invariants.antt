@@ -1,5 +1,0 @@
-use Rattle.sf_session.proofs.PlacedTerms.{AreExponents}
-use Rattle.sf_session.proofs.placing.term.monomial_of.Given as goal
-
-abbrev pub invariant-loop-place : goal.invariant-loop-place
-invariant-loop-place l = AreExponents l.factors l.names l.place l.exponents

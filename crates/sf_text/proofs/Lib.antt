@@ -1,0 +1,10 @@
+pub mod Cuts
+pub mod Digits
+pub mod Names
+pub mod JoinedItems
+pub mod PrintedTerms
+pub mod PrintedRows
+pub mod Signs
+pub mod SmallTerms
+pub mod PlacedTerms
+pub mod PlacedRows

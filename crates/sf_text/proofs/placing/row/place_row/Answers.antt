@@ -1,0 +1,18 @@
+use Rattle.std.proofs.Common.{◌≡◌, true, length, ◌∙◌, zero-add, rules}
+use Rattle.std.specs.List.{list_all}
+use Rattle.std.specs.Ordering.{int_eq}
+use Rattle.sf_algebra.specs.Rings.{ones}
+use Rattle.sf_algebra.specs.Vectors.{place_degree}
+use Rattle.sf_text.proofs.PlacedRows.{IsBeforeColumn, placed_terms-columns, IsVector-tested}
+use Rattle.sf_text.proofs.placing.row.place_row.Goals as goal
+
+pub returns-then-have_degree-clause-vector : goal.returns-then-have_degree-clause-vector
+returns-then-have_degree-clause-vector c =
+    let degrees = c.args.degrees.now in
+    let columns : IsBeforeColumn (length degrees) c.deref.result.now =
+    rw (c.deref.ensures.value, c.in_ok-terms.ensures)
+    (placed_terms-columns c.args.ring.now 0 (length degrees) c.args.entries.now (zero-add _ ∙ c.requires.shaped)) in
+    let tested : list_all (λ t. int_eq (place_degree ones degrees t.at) c.row_degree-degree.result) c.in_ok-terms-2.terms.items ≡ true =
+    search rules in
+    let vector : c.from_canonical.result ≡ record { degree = c.row_degree-degree.result; terms = c.in_ok-terms-2.terms.items } = search rules in
+    rw vector (IsVector-tested _ _ _ _ _ c.in_ok-terms-2.ensures.sum c.in_ok-terms-2.ensures.canonical columns tested)

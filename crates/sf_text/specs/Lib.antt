@@ -1,0 +1,7 @@
+pub mod Words
+pub mod Joins
+pub mod Columns
+pub mod Raw
+pub mod MatrixText
+pub mod Placed
+pub mod Unknowns
