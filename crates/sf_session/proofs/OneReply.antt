@@ -13,7 +13,7 @@ use Rattle.sf_script.specs.declared.refusal.Refusal.TheVariants.{Unbuilt, Headin
 use Rattle.sf_script.specs.declared.refusal.Refusal.{Refusal}
 use Rattle.sf_reply.specs.Texts.{reply_text}
 use Rattle.sf_reply.specs.declared.reply.Reply.TheVariants as told
-use Rattle.sf_session.specs.Replies.{Gives, Says, Refused, Carried, Answered, Step}
+use Rattle.sf_session.specs.Replies.{Gives, Refused, Carried, Answered, Step}
 use Rattle.sf_session.specs.State.{State}
 
 -- a relation between a reply and a state that exactly one pair meets
