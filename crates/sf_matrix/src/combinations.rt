@@ -17,7 +17,7 @@ use std::alloc::Global;
 
 impl Term {
     /// The product with a monomial and a coefficient, those of `factor`; the position stays.
-    pub(crate) fn times(&self, modulus: Modulus, factor: &Term) -> Term
+    pub fn times(&self, modulus: Modulus, factor: &Term) -> Term
         requires room { exponent_sum factor.now.at.monomial + exponent_sum self.now.at.monomial ≤ GREATEST_SUM }
         requires residue { self.now.coefficient < modulus }
         requires factor { factor.now.coefficient < modulus }
@@ -32,7 +32,7 @@ impl Term {
 }
 
 /// Adds the products of a term of a polynomial, `factor`, with each of the terms at the end.
-pub(crate) fn push_multiple(
+pub fn push_multiple(
     products: &mut Vec<Term>,
     modulus: Modulus,
     factor: &Term,

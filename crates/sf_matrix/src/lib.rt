@@ -3,6 +3,7 @@
 //! Contracts see each of them as the plain data of `sf_algebra`.
 #![tactic(auto)]
 
+mod basis;
 mod bounds;
 mod combinations;
 mod free;
@@ -13,7 +14,9 @@ mod name;
 mod sums;
 mod vector;
 
+pub use basis::{BaseFault, Graph};
 pub use bounds::fits;
+pub use combinations::push_multiple;
 pub use free::Free;
 pub use laws::{equal_matrices, equal_vectors};
 pub use list::List;

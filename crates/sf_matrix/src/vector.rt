@@ -117,6 +117,15 @@ impl Vector {
         self.terms.is_empty()
     }
 
+    /// The terms, the greatest first.
+    pub fn terms(&self) -> &[Term]
+        ensures terms { result.now ≡ self.now.terms }
+        ensures descending { IsDescending (place_cmp ones) self.now.terms }
+        ensures nonzero { AllByRecursion (λ t. 0 < t.coefficient) self.now.terms }
+    {
+        &self.terms
+    }
+
     /// The generator, monomial and coefficient of term `k`. The greatest term has number 0.
     pub fn term(&self, k: usize) -> (u64, Mono, u32)
         requires { k < length self.now.terms }

@@ -45,20 +45,22 @@ fn rows_between(
 {
     let mut between = Vec::with_capacity(alloc, rows.len())?;
     for row in rows {
-        between.push(vector_between(alloc, from, to, row)?)?;
+        between.push(row.part(alloc, from, to)?)?;
     }
     Ok(between)
 }
 
-/// A row's terms at these positions.
-fn vector_between(alloc: Global, from: u64, to: u64, row: &Vector) -> Result<Vector, OutOfMemory>
-    ensures { IfOk result (λ v. v ≡ vector_part from to row.now) }
-{
-    let terms = terms_between(alloc, from, to, &row.terms)?;
-    Ok(Vector {
-        degree: row.degree,
-        terms,
-    })
+impl Vector {
+    /// The terms at the positions from `from` to before `to`, counted from `from`.
+    pub fn part(&self, alloc: Global, from: u64, to: u64) -> Result<Vector, OutOfMemory>
+        ensures part { IfOk result (λ v. v ≡ vector_part from to self.now) }
+    {
+        let terms = terms_between(alloc, from, to, &self.terms)?;
+        Ok(Vector {
+            degree: self.degree,
+            terms,
+        })
+    }
 }
 
 /// The terms at the positions from `from` to before `to`, counted from `from`.
