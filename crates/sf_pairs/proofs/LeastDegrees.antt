@@ -1,18 +1,17 @@
 -- The pairs whose degree is above that of none are those that have the least degree.
-use Rattle.std.proofs.Common.{◌≡◌, ℕ, suc, ◌<◌, ℤ, ◌≤ℤ◌, int_le, List, ◌∷◌, ◌++◌, length, slice_index_or, take, drop, refl, sym, ◌∙◌, ap, subst, arith}
+use Rattle.std.proofs.Common.{◌≡◌, ℤ, ◌≤ℤ◌, int_le, List, refl, subst, arith}
 use Rattle.std.specs.Bool.{Decides}
-use Rattle.std.specs.List.{All, count_by, list_all, remove}
-use Rattle.std.proofs.Math.Seq.{split_at}
+use Rattle.std.specs.List.{All, count_by, list_all}
 use Rattle.std.proofs.lemmas.Bool.Decides.{Decides-by_and, Decides-int_eq, Decides-like, same_from_decides}
 use Rattle.std.proofs.lemmas.Int.{ints}
-use Rattle.std.proofs.lemmas.List.Elements.{All-take, All-weaker}
-use Rattle.sf_pairs.specs.Queue.{QueuedPair, is_of_degree, HasLeast, is_least, count_least, count_least_in, IsTaken}
+use Rattle.std.proofs.lemmas.List.Elements.{All-weaker}
+use Rattle.sf_pairs.specs.Queue.{QueuedPair, is_of_degree, HasLeast, is_least, count_least, count_least_in}
 use Rattle.sf_pairs.proofs.Choices.{count_by-agree}
 
-Decides-int_le : (a b : ℤ) → Decides (int_le a b) (a ≤ℤ b)
+pub Decides-int_le : (a b : ℤ) → Decides (int_le a b) (a ≤ℤ b)
 Decides-int_le a b = (λ h. grind (arith, ints), λ h. grind (arith, ints))
 
-Decides-is_least : (queue : List QueuedPair) (e : QueuedPair)
+pub Decides-is_least : (queue : List QueuedPair) (e : QueuedPair)
     → Decides (is_least queue e) (All (λ (f : QueuedPair). e.degree ≤ℤ f.degree) queue)
 Decides-is_least queue e =
     Decides-by_and (λ (f : QueuedPair). int_le e.degree f.degree) (λ (f : QueuedPair). e.degree ≤ℤ f.degree)
@@ -28,7 +27,7 @@ module _ (d : ℤ) (queue : List QueuedPair) (least : HasLeast d queue) where
       subst (λ (f : QueuedPair). e.degree ≤ℤ f.degree) some.3 (each some.0 some.1 some.2) in
       omega (arith, ints, below, above, some.4)
 
-  highest : (e : QueuedPair) → e.degree ≡ d → All (λ (f : QueuedPair). e.degree ≤ℤ f.degree) queue
+  pub highest : (e : QueuedPair) → e.degree ≡ d → All (λ (f : QueuedPair). e.degree ≤ℤ f.degree) queue
   highest e same = λ k x below. let above = least.1 k x below in omega (arith, ints, above, same)
 
   is_least-HasLeast : (e : QueuedPair) → d ≤ℤ e.degree → is_least queue e ≡ is_of_degree d e
@@ -45,21 +44,3 @@ module _ (d : ℤ) (queue : List QueuedPair) (least : HasLeast d queue) where
 
   pub count_least-HasLeast : count_least queue ≡ count_by (is_of_degree d) queue
   count_least-HasLeast = count_least_in-HasLeast queue least.1
-
-  -- the pair that stands at a place is taken
-  pub IsTaken-place : (at place : ℕ) (e : QueuedPair) → place < length queue → e ≡ slice_index_or queue place e
-      → e.degree ≡ d → count_by (is_of_degree d) (take place queue) ≡ at
-      → IsTaken at queue e.first e.second (remove queue place)
-  IsTaken-place at place e below there same count = record {
-    degree = e.degree;
-    before = take place queue;
-    after = drop (suc place) queue;
-    whole =
-        split_at queue place e below
-        ∙ ap (λ (f : QueuedPair). take place queue ++ f ∷ drop (suc place) queue) (sym there);
-    rest = refl;
-    least = (Decides-is_least queue e).1 (highest e same);
-    place =
-        count_least_in-HasLeast (take place queue) (All-take (λ (f : QueuedPair). d ≤ℤ f.degree) place queue least.1)
-        ∙ count;
-  }

@@ -1,2 +1,5 @@
 pub mod LeastDegrees
 pub mod Choices
+pub mod PushOrders
+pub mod DegreeOrders
+pub mod KeptQueues

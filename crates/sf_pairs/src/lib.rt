@@ -9,7 +9,7 @@ mod ticks;
 
 pub use laws::{least_degrees, taken_pairs};
 pub use queue::PairQueue;
-pub use strategy::{FirstStrategy, Strategy};
+pub use strategy::{FirstStrategy, LastStrategy, SpreadStrategy, Strategy};
 pub use ticks::Ticks;
 
 #[cfg(test)]

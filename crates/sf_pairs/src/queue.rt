@@ -1,43 +1,52 @@
-ghost use Rattle.std.specs.Prelude.{◌≡◌, ◌<◌, ◌↔◌, [], ◌∷◌, ◌++◌, length, take, count_by, HoldsAt, IsNone, IfSome, OnOk, OnErr};
-ghost use Rattle.sf_pairs.specs.Queue.{QueuedPair, pair_of, is_of_degree, HasLeast, count_least, IsTaken};
+ghost use Rattle.std.specs.Prelude.{◌≡◌, ◌<◌, ◌≤◌, ◌↔◌, [], ◌∷◌, ◌++◌, int_le, length, true, false, IsNone, IfSome, OnOk, OnErr};
+ghost use Rattle.std.specs.List.Sorted.{IsPartitionedBy, IsPartitionPoint};
+ghost use Rattle.sf_pairs.specs.Pushes.{NumberedPair};
+ghost use Rattle.sf_pairs.specs.Queue.{pair_of, HasLeast, count_least, IsTaken};
 
 use sf_field::OutOfMemory;
 use std::alloc::Global;
+use std::collections::VecDeque;
 use std::marker::Model;
 
-/// A pair of polynomials, by their numbers, with its degree.
+/// A pair of polynomials, by their numbers, with its degree and the number of its push.
 #[derive(Clone, Copy, Debug, PartialEq, Eq)]
 struct Entry {
+    number: u64,
     degree: i64,
     first: u32,
     second: u32,
 }
 
 impl Model for Entry {
-    ghost use Rattle.sf_pairs.specs.Queue.{QueuedPair};
+    ghost use Rattle.sf_pairs.specs.Pushes.{NumberedPair};
 
-    ghost Value = { QueuedPair };
+    ghost Value = { NumberedPair };
 
-    ghost view = { λ e. record { degree = e.degree; first = e.first; second = e.second } };
+    ghost view = { λ e. record { number = e.number; pair = record { degree = e.degree; first = e.first; second = e.second } } };
 
-    ghost inverse = { λ e. record { degree = e.degree; first = e.first; second = e.second } };
+    ghost inverse = { λ e. record { number = e.number; degree = e.pair.degree; first = e.pair.first; second = e.pair.second } };
 }
 
 /// The pairs that a Buchberger loop has still to look at, of which those of least degree come next.
 ///
-/// Contracts see it as the list of the pairs with their degrees, in the order in which they were pushed.
+/// Contracts see it as the list of the pairs with their degrees, in the order in which they were pushed. They are kept by
+/// their degrees, and those of one degree in the order of their pushes, so that a pair is found without a search of all.
 #[derive(Debug, Drop)]
 pub struct PairQueue {
-    entries: Vec<Entry>,
+    pushes: u64,
+    entries: VecDeque<Entry>,
 }
 
 impl Model for PairQueue {
     ghost use Rattle.std.specs.Prelude.{List};
+    ghost use Rattle.sf_pairs.specs.Pushes.{IsKept, in_order};
     ghost use Rattle.sf_pairs.specs.Queue.{QueuedPair};
 
     ghost Value = { List QueuedPair };
 
-    ghost view = { λ q. q.entries.items };
+    ghost view = { λ q. in_order q.pushes q.entries.items };
+
+    ghost invariant = { λ q. IsKept q.pushes q.entries.items };
 }
 
 impl PairQueue {
@@ -46,21 +55,30 @@ impl PairQueue {
         ensures empty { result ≡ [] }
     {
         PairQueue {
-            entries: Vec::new(alloc),
+            pushes: 0,
+            entries: VecDeque::new(alloc),
         }
     }
 
-    /// Adds a pair of this degree, by the numbers of its two polynomials.
+    /// Adds a pair of this degree, by the numbers of its two polynomials. There is room for 2^64 - 1 pushes.
     pub fn push(&mut self, degree: i64, pair: (u32, u32)) -> Result<(), OutOfMemory>
         ensures ok { OnOk result (self.new ≡ self.old ++ pair_of degree pair.0 pair.1 ∷ []) }
         ensures err { OnErr result (self.new ≡ self.old) }
     {
         let (first, second) = pair;
-        self.entries.push(Entry {
-            degree,
-            first,
-            second,
-        })?;
+        let number = self.pushes;
+        let pushes = number.checked_add(1).ok_or(OutOfMemory)?;
+        let place = place_behind(&self.entries, degree);
+        self.entries.insert(
+            place,
+            Entry {
+                number,
+                degree,
+                first,
+                second,
+            },
+        )?;
+        self.pushes = pushes;
         Ok(())
     }
 
@@ -69,15 +87,18 @@ impl PairQueue {
         ensures none { IsNone result ↔ (self.now ≡ []) }
         ensures least { IfSome result (λ d. HasLeast d self.now) }
     {
-        self.entries.iter().map(|entry| entry.degree).min()
+        match self.entries.front() {
+            Some(entry) => Some(entry.degree),
+            None => None,
+        }
     }
 
     /// How many pairs have the least degree. There are none where there is no pair.
     pub fn count_least(&self) -> usize
         ensures count { result ≡ count_least self.now }
     {
-        match self.least() {
-            Some(degree) => count_of_degree(&self.entries, degree),
+        match self.entries.front() {
+            Some(entry) => place_behind(&self.entries, entry.degree),
             None => 0,
         }
     }
@@ -87,40 +108,19 @@ impl PairQueue {
         requires { at < count_least self.old }
         ensures { IsTaken at self.old result.0 result.1 self.new }
     {
-        let Some(degree) = self.least() else {
+        let Some(taken) = self.entries.remove(at) else {
             unreachable!()
         };
-        let place = place_of(&self.entries, degree, at);
-        let taken = self.entries.remove(place);
         (taken.first, taken.second)
     }
 }
 
-/// How many entries have this degree.
-fn count_of_degree(entries: &[Entry], degree: i64) -> usize
-    ensures { result ≡ count_by (is_of_degree degree) entries.now }
+/// The place behind all entries of at most this degree.
+fn place_behind(entries: &VecDeque<Entry>, degree: i64) -> usize
+    requires { IsPartitionedBy (λ (e : NumberedPair). int_le e.pair.degree degree) entries.now.items }
+    ensures within { result ≤ length entries.now.items }
+    ensures point { IsPartitionPoint (λ (e : NumberedPair). int_le e.pair.degree degree ≡ true)
+        (λ (e : NumberedPair). int_le e.pair.degree degree ≡ false) entries.now.items result }
 {
-    entries
-        .iter()
-        .filter(|entry| entry.degree == degree)
-        .count()
-}
-
-/// The place of the entry of this degree that has `at` others of this degree before it.
-fn place_of(entries: &[Entry], degree: i64, at: usize) -> usize
-    requires { at < count_by (is_of_degree degree) entries.now }
-    ensures within { result < length entries.now }
-    ensures before { count_by (is_of_degree degree) (take result entries.now) ≡ at }
-    ensures degree { HoldsAt (λ (e : QueuedPair). e.degree ≡ degree) entries.now result }
-{
-    let mut before = 0;
-    for (place, entry) in entries.iter().enumerate() {
-        if entry.degree == degree {
-            if before == at {
-                return place;
-            }
-            before += 1;
-        }
-    }
-    unreachable!()
+    entries.partition_point(|entry| entry.degree <= degree)
 }

@@ -61,3 +61,27 @@ fn the_first_strategy_takes_the_first_pair(rt: HostRuntime) {
         assert_eq!(rt; choose_by(&mut strategy, count), 0);
     }
 }
+
+#[test]
+fn the_last_strategy_takes_the_last_pair(rt: HostRuntime) {
+    let mut strategy = LastStrategy;
+    for count in 1..4 {
+        assert_eq!(rt; strategy.choose(count), count - 1);
+    }
+}
+
+#[test]
+fn the_spread_strategy_goes_over_the_pairs(rt: HostRuntime) {
+    let mut strategy = SpreadStrategy::new();
+    // whether the last reduction ended in zero, how many pairs there are, and the number of the one that is taken
+    for (zero, count, at) in [
+        (false, 5, 0),
+        (false, 5, 1),
+        (true, 5, 2),
+        (true, 5, 0),
+        (false, 3, 2),
+    ] {
+        strategy.told(zero);
+        assert_eq!(rt; strategy.choose(count), at);
+    }
+}
