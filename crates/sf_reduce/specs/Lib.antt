@@ -1,0 +1,3 @@
+pub mod TermSums
+pub mod Buckets
+pub mod LeadIndex
