@@ -1,0 +1,119 @@
+ghost use Rattle.std.specs.Prelude.{◌≡◌, ◌≤◌, [], ◌∷◌, IfOk, pos};
+ghost use Rattle.sf_algebra.specs.Monomials.{from_exponents};
+ghost use Rattle.sf_algebra.specs.Rings.{plain};
+
+use crate::basis::graph_basis;
+use sf_field::{Modulus, OutOfMemory};
+use sf_matrix::{BaseFault, Free, Graph, List, Matrix, Vector};
+use sf_mono::Mono;
+use sf_pairs::{FirstStrategy, Strategy, Ticks};
+use std::alloc::Global;
+use std::test::Fail;
+
+/// No rows modulo 101 yet, over a generator of degree 0.
+fn no_rows(alloc: Global) -> Result<Matrix, Fail>
+    ensures { IfOk result (λ m. m ≡ record { ring = plain 101; target = pos 0 ∷ []; rows = [] }) }
+{
+    let modulus = Modulus::from_number(101).ok_or("a modulus")?;
+    let degrees = List::from_slice(alloc, [0].as_slice())?;
+    Ok(Matrix::new(alloc, modulus, Free { degrees }))
+}
+
+/// The monomial of x and y with these exponents.
+fn monomial(x: u16, y: u16) -> Result<Mono, Fail>
+    ensures { IfOk result (λ a. a ≡ from_exponents (x ∷ y ∷ 0 ∷ 0 ∷ 0 ∷ 0 ∷ [])) }
+{
+    Ok(Mono::from_exponents([x, y, 0, 0, 0, 0]).ok_or("a monomial")?)
+}
+
+/// The rows x^2 and x y + y^2, of degree 2.
+fn quadrics(alloc: Global) -> Result<Matrix, Fail> {
+    let mut square = Vector::zero(alloc, 2);
+    square.push(0, monomial(2, 0)?, 1)?;
+    let mut sum = Vector::zero(alloc, 2);
+    sum.push(0, monomial(1, 1)?, 1)?;
+    sum.push(0, monomial(0, 2)?, 1)?;
+    let mut rows = no_rows(alloc)?;
+    rows.push_row(square)?;
+    rows.push_row(sum)?;
+    Ok(rows)
+}
+
+/// The rows x and y, of degree 1.
+fn variables(alloc: Global) -> Result<Matrix, Fail> {
+    let mut x = Vector::zero(alloc, 1);
+    x.push(0, monomial(1, 0)?, 1)?;
+    let mut y = Vector::zero(alloc, 1);
+    y.push(0, monomial(0, 1)?, 1)?;
+    let mut rows = no_rows(alloc)?;
+    rows.push_row(x)?;
+    rows.push_row(y)?;
+    Ok(rows)
+}
+
+/// A term of a matrix: its row and that row's degree, its column, the exponents of x and y, and its coefficient.
+type Entry = (usize, i32, u64, u16, u16, u32);
+
+fn entries_of(alloc: Global, matrix: &Matrix) -> Result<Vec<Entry>, OutOfMemory> {
+    let mut entries = Vec::new(alloc);
+    for i in 0..matrix.rows() {
+        let row = matrix.row(i);
+        let degree = row.degree();
+        for term in row.terms() {
+            let a = term.monomial;
+            entries.push((
+                i,
+                degree,
+                term.position,
+                a.exponent(0),
+                a.exponent(1),
+                term.coefficient,
+            ))?;
+        }
+    }
+    Ok(entries)
+}
+
+/// What a matrix gives after one tick.
+fn basis_of(alloc: Global, m: &Matrix, limit: u32) -> Result<Result<Graph, BaseFault>, Fail>
+    requires least { 1 ≤ limit }
+    requires greatest { limit ≤ 60 }
+{
+    let mut strategy: Box<dyn Strategy> = Box::new(alloc, FirstStrategy)?;
+    let mut ticks = Ticks::new();
+    let graph = graph_basis(alloc, m, limit, &mut strategy, &mut ticks);
+    if ticks.count() != 1 {
+        return Err("the ticks")?;
+    }
+    Ok(graph)
+}
+
+#[test]
+fn two_quadrics_have_a_cube(rt: HostRuntime) -> Result<(), Fail> {
+    let m = quadrics(rt.alloc())?;
+    let graph = basis_of(rt.alloc(), &m, 3)?.map_err(|_fault| "a fault")?;
+    let basis = entries_of(rt.alloc(), &graph.basis)?;
+    let expected = [
+        (0, 2, 0, 2, 0, 1),
+        (1, 2, 0, 1, 1, 1),
+        (1, 2, 0, 0, 2, 1),
+        (2, 3, 0, 0, 3, 1),
+    ];
+    assert_eq!(rt; basis.as_slice(), expected.as_slice());
+    let fault = basis_of(rt.alloc(), &m, 2)?.err();
+    assert_eq!(rt; fault, Some(BaseFault::Large { rows: 2, cols: 1 }));
+    Ok(())
+}
+
+#[test]
+fn variables_have_one_syzygy(rt: HostRuntime) -> Result<(), Fail> {
+    let m = variables(rt.alloc())?;
+    let graph = basis_of(rt.alloc(), &m, 1)?.map_err(|_fault| "a fault")?;
+    let coefficients = entries_of(rt.alloc(), &graph.coefficients)?;
+    let units = [(0, 1, 0, 0, 0, 1), (1, 1, 1, 0, 0, 1)];
+    assert_eq!(rt; coefficients.as_slice(), units.as_slice());
+    let syzygies = entries_of(rt.alloc(), &graph.syzygies)?;
+    let syzygy = [(0, 2, 0, 0, 1, 1), (0, 2, 1, 1, 0, 100)];
+    assert_eq!(rt; syzygies.as_slice(), syzygy.as_slice());
+    Ok(())
+}
