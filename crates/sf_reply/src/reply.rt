@@ -29,4 +29,8 @@ pub enum Reply<'a> {
     Refused(Refusal),
     /// The module that was asked for.
     Module(Presented<'a>),
+    /// The basis that was asked for, as rows over the module's generators.
+    Basis(Presented<'a>),
+    /// Whether the vector is in the span.
+    Member(bool),
 }

@@ -12,7 +12,27 @@ fn replies(rt: HostRuntime) -> Result<(), Fail> {
     let table = [
         (Reply::Accepted, "ok\n"),
         (Reply::Malformed, "error syntax 0\n"),
-        (Reply::Refused(Refusal::Shape), "error later\n"),
+        (Reply::Refused(Refusal::Unbuilt), "error later\n"),
+        (Reply::Refused(Refusal::Heading), "error ring\n"),
+        (
+            Reply::Refused(Refusal::Unknown(Name::from_text(alloc, "w")?)),
+            "error name w\n",
+        ),
+        (
+            Reply::Refused(Refusal::Taken(Name::from_text(alloc, "K")?)),
+            "error taken K\n",
+        ),
+        (Reply::Refused(Refusal::Shape), "error shape\n"),
+        (Reply::Refused(Refusal::Range), "error range\n"),
+        (
+            Reply::Refused(Refusal::Large {
+                rows: 40_000,
+                cols: 1,
+            }),
+            "error large 40000 1\n",
+        ),
+        (Reply::Member(true), "member yes\n"),
+        (Reply::Member(false), "member no\n"),
         (Reply::Refused(Refusal::Degree(12)), "error degree 12\n"),
     ];
     for (reply, written) in table {
@@ -22,7 +42,7 @@ fn replies(rt: HostRuntime) -> Result<(), Fail> {
 }
 
 #[test]
-fn modules(rt: HostRuntime) -> Result<(), Fail> {
+fn matrices(rt: HostRuntime) -> Result<(), Fail> {
     let alloc = rt.alloc();
     let names = [Name::from_text(alloc, "x")?];
     let modulus = Modulus::from_number(101).ok_or("the modulus")?;
@@ -33,10 +53,17 @@ fn modules(rt: HostRuntime) -> Result<(), Fail> {
         names: &names,
         relations: &relations,
     });
-    let text = reply_text(alloc, &reply)?;
     assert_eq!(rt;
-        text.as_slice(),
+        reply_text(alloc, &reply)?.as_slice(),
         b"degrees (-7)\nrels ()->(-7) []\n".as_slice()
+    );
+    let reply = Reply::Basis(Presented {
+        names: &names,
+        relations: &relations,
+    });
+    assert_eq!(rt;
+        reply_text(alloc, &reply)?.as_slice(),
+        b"basis ()->(-7) []\n".as_slice()
     );
     Ok(())
 }

@@ -1,9 +1,10 @@
 ghost use Rattle.std.specs.Prelude.{◌≡◌, IfOk};
-ghost use Rattle.sf_reply.specs.Texts.{degree_text, refusal_text, module_text, reply_text};
+ghost use Rattle.sf_reply.specs.Texts.{name_text, degree_text, large_text, refusal_text, module_text, basis_text, reply_text};
 
 use crate::reply::{Presented, Reply};
 use itoa::Buffer;
 use sf_field::OutOfMemory;
+use sf_matrix::Name;
 use sf_script::Refusal;
 use sf_text::{print_degrees, print_matrix};
 use std::alloc::Global;
@@ -17,6 +18,9 @@ pub fn reply_text(alloc: Global, reply: &Reply<'_>) -> Result<Vec<u8>, OutOfMemo
         Reply::Malformed => Ok(Vec::from_slice(alloc, b"error syntax 0\n")?),
         Reply::Refused(refusal) => refusal_text(alloc, refusal),
         Reply::Module(module) => module_text(alloc, module),
+        Reply::Basis(basis) => basis_text(alloc, basis),
+        Reply::Member(true) => Ok(Vec::from_slice(alloc, b"member yes\n")?),
+        Reply::Member(false) => Ok(Vec::from_slice(alloc, b"member no\n")?),
     }
 }
 
@@ -25,9 +29,37 @@ pub fn refusal_text(alloc: Global, refusal: &Refusal) -> Result<Vec<u8>, OutOfMe
     ensures { IfOk result (λ text. text.items ≡ refusal_text refusal.now) }
 {
     match refusal {
+        Refusal::Unbuilt => Ok(Vec::from_slice(alloc, b"error later\n")?),
+        Refusal::Heading => Ok(Vec::from_slice(alloc, b"error ring\n")?),
+        Refusal::Unknown(name) => name_text(alloc, b"error name ", name),
+        Refusal::Taken(name) => name_text(alloc, b"error taken ", name),
+        Refusal::Shape => Ok(Vec::from_slice(alloc, b"error shape\n")?),
         Refusal::Degree(row) => degree_text(alloc, *row),
-        _ => Ok(Vec::from_slice(alloc, b"error later\n")?),
+        Refusal::Range => Ok(Vec::from_slice(alloc, b"error range\n")?),
+        Refusal::Large { rows, cols } => large_text(alloc, *rows, *cols),
     }
+}
+
+/// A name behind these words.
+fn name_text(alloc: Global, words: &[u8], name: &Name) -> Result<Vec<u8>, OutOfMemory>
+    ensures { IfOk result (λ text. text.items ≡ name_text words.now name.now) }
+{
+    let mut text = Vec::from_slice(alloc, words)?;
+    text.extend_from_slice(name.as_str().as_bytes())?;
+    text.push(b'\n')?;
+    Ok(text)
+}
+
+fn large_text(alloc: Global, rows: u64, cols: u64) -> Result<Vec<u8>, OutOfMemory>
+    ensures { IfOk result (λ text. text.items ≡ large_text rows cols) }
+{
+    let mut buffer = Buffer::new();
+    let mut text = Vec::from_slice(alloc, b"error large ")?;
+    text.extend_from_slice(buffer.format(rows).as_bytes())?;
+    text.push(b' ')?;
+    text.extend_from_slice(buffer.format(cols).as_bytes())?;
+    text.push(b'\n')?;
+    Ok(text)
 }
 
 fn degree_text(alloc: Global, row: u64) -> Result<Vec<u8>, OutOfMemory>
@@ -36,6 +68,15 @@ fn degree_text(alloc: Global, row: u64) -> Result<Vec<u8>, OutOfMemory>
     let mut buffer = Buffer::new();
     let mut text = Vec::from_slice(alloc, b"error degree ")?;
     text.extend_from_slice(buffer.format(row).as_bytes())?;
+    text.push(b'\n')?;
+    Ok(text)
+}
+
+fn basis_text(alloc: Global, basis: &Presented<'_>) -> Result<Vec<u8>, OutOfMemory>
+    ensures { IfOk result (λ text. text.items ≡ basis_text basis.now) }
+{
+    let mut text = Vec::from_slice(alloc, b"basis ")?;
+    print_matrix(&mut text, basis.names, basis.relations)?;
     text.push(b'\n')?;
     Ok(text)
 }

@@ -1,5 +1,5 @@
 -- A definition that passes some tests is refused by the next one, or accepted.
-use Rattle.std.proofs.Common.{◌≡◌, ℕ, true, false, List, [], ◌∷◌, Option, Some, None, Result, Ok, Err, length, refl, ap, ◌∙◌}
+use Rattle.std.proofs.Common.{◌≡◌, ℕ, true, false, List, [], ◌∷◌, Option, Some, None, Result, Ok, Err, length, ap, ◌∙◌}
 use Rattle.std.specs.Prelude.{not, is_some, ℤ}
 use Rattle.std.specs.Option.{option_map}
 use Rattle.std.specs.List.{list_all}
@@ -8,19 +8,10 @@ use Rattle.sf_text.specs.Placed.{has_shape, relations_of, first_fault}
 use Rattle.sf_text.specs.Raw.{RawTerm}
 use Rattle.sf_text.specs.Unknowns.{first_unknown}
 use Rattle.sf_script.specs.Refusals.{refused_if, unless_refused, module_named, is_degree, definition}
+use Rattle.sf_script.proofs.Reasons.{refused_first, passed_first}
 use Rattle.sf_text.specs.declared.ring.Ring.{Ring}
 use Rattle.sf_script.specs.declared.refusal.Refusal.TheVariants.{Unknown, Taken, Shape, Degree, Range}
 use Rattle.sf_script.specs.declared.refusal.Refusal.{Refusal}
-
-refused_first : {X : Type 0} (x : X) (reason : Option Refusal) (others : List (Option Refusal)) (refusal : Refusal)
-    → reason ≡ Some refusal → unless_refused x (reason ∷ others) ≡ Err refusal
-refused_first x None others refusal e = cc
-refused_first x (Some other) others refusal e = let same : other ≡ refusal = cc in ap Err same
-
-passed_first : {X : Type 0} (x : X) (reason : Option Refusal) (others : List (Option Refusal)) → reason ≡ None
-    → unless_refused x (reason ∷ others) ≡ unless_refused x others
-passed_first x None others e = refl
-passed_first x (Some other) others e = cc
 
 module _ (found : Option Ring) (ring : Ring) (modules : List (List ℕ × Matrix)) (name : List ℕ) (degrees : List ℤ)
     (rows : List (List (List RawTerm))) (given : found ≡ Some ring) where

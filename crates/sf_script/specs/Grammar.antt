@@ -7,7 +7,7 @@ use Rattle.sf_text.specs.MatrixText.{matrix_written}
 use Rattle.sf_text.specs.Placed.{is_written_degree}
 use Rattle.sf_text.specs.Unknowns.{◌>>=◌}
 use Rattle.sf_text.specs.Words.{words, begins_with, is_space, is_name, is_number, number_value, is_integer, integer_value}
-use Rattle.sf_script.specs.declared.command.Command.TheVariants.{Spectral, Ring, Module, Show, Later}
+use Rattle.sf_script.specs.declared.command.Command.TheVariants.{Spectral, Ring, Limit, Module, Show, Basis, Member, Later}
 use Rattle.sf_script.specs.declared.command.Command.{Command}
 use Rattle.sf_script.specs.declared.command.Line.TheVariants.{Silent, Malformed, Read}
 use Rattle.sf_script.specs.declared.command.Line.{Line}
@@ -34,6 +34,11 @@ spectral_command arguments =
     option_and_then (λ number. if is_integer number then Some (Spectral (integer_value number)) else None)
     (only arguments)
 
+-- limit LIMIT
+abbrev pub limit_command : List (List ℕ) → Option Command
+limit_command arguments =
+    option_and_then (λ number. if is_integer number then Some (Limit (integer_value number)) else None) (only arguments)
+
 -- ring MODULUS NAME .. NAME
 abbrev pub ring_command : List (List ℕ) → Option Command
 ring_command [] = None
@@ -45,6 +50,18 @@ ring_command (number ∷ name ∷ names) =
 -- show NAME
 abbrev pub show_command : List (List ℕ) → Option Command
 show_command arguments = option_and_then (λ name. if is_name name then Some (Show name) else None) (only arguments)
+
+-- basis NAME
+abbrev pub basis_command : List (List ℕ) → Option Command
+basis_command arguments = option_and_then (λ name. if is_name name then Some (Basis name) else None) (only arguments)
+
+-- member NAME MATRIX
+abbrev pub member_command : List (List ℕ) → Option Command
+member_command arguments = do
+  named ← first arguments
+  text ← only named.1
+  vector ← matrix_written text
+  if is_name named.0 then Some (Member named.0 vector) else None
 
 -- the integers up to the word `relations`, and the words after it
 abbrev pub degrees_and_rest : List (List ℕ) → Option (List ℤ × List (List ℕ))
@@ -66,11 +83,11 @@ module_command arguments = do
 -- the command words that the language has and that aren't built yet
 abbrev pub later_words : List (List ℕ)
 later_words =
-    codes "limit" ∷ codes "map" ∷ codes "complex" ∷ codes "bicomplex" ∷ codes "at" ∷ codes "dh" ∷ codes "dv" ∷ codes "seal"
-    ∷ codes "let" ∷ codes "basis" ∷ codes "syz" ∷ codes "member" ∷ codes "lift" ∷ codes "kernel" ∷ codes "image" ∷ codes "coker"
-    ∷ codes "resolve" ∷ codes "hom" ∷ codes "tensor" ∷ codes "ext" ∷ codes "tor" ∷ codes "page" ∷ codes "diff" ∷ codes "next"
-    ∷ codes "total" ∷ codes "filtration" ∷ codes "purity" ∷ codes "witness" ∷ codes "work" ∷ codes "balance" ∷ codes "connect"
-    ∷ codes "hyper" ∷ []
+    codes "map" ∷ codes "complex" ∷ codes "bicomplex" ∷ codes "at" ∷ codes "dh" ∷ codes "dv"
+    ∷ codes "seal" ∷ codes "let" ∷ codes "syz" ∷ codes "lift" ∷ codes "kernel" ∷ codes "image"
+    ∷ codes "coker" ∷ codes "resolve" ∷ codes "hom" ∷ codes "tensor" ∷ codes "ext" ∷ codes "tor"
+    ∷ codes "page" ∷ codes "diff" ∷ codes "next" ∷ codes "total" ∷ codes "filtration" ∷ codes "purity"
+    ∷ codes "witness" ∷ codes "work" ∷ codes "balance" ∷ codes "connect" ∷ codes "hyper" ∷ []
 
 -- one of these words, or a word that begins with @, with which the lines of named clients begin
 abbrev pub is_later_word : List ℕ → Bool
@@ -83,7 +100,10 @@ named_command word arguments =
     else (if bytes_eq word (codes "spectral") then spectral_command arguments
     else (if bytes_eq word (codes "ring") then ring_command arguments
     else (if bytes_eq word (codes "module") then module_command arguments
-    else (if bytes_eq word (codes "show") then show_command arguments else None))))
+    else (if bytes_eq word (codes "limit") then limit_command arguments
+    else (if bytes_eq word (codes "show") then show_command arguments
+    else (if bytes_eq word (codes "basis") then basis_command arguments
+    else (if bytes_eq word (codes "member") then member_command arguments else None)))))))
 
 -- the command of a line's words, if they are in the grammar
 abbrev pub command_of : List (List ℕ) → Option Command
@@ -99,7 +119,10 @@ abbrev pub IsWritten : Command → Type 0
 IsWritten (Spectral version) = Unit {0}
 IsWritten (Ring modulus names) = 1 ≤ length names
 IsWritten (Module name degrees relations) = IsTrue (list_all is_written_degree degrees)
+IsWritten (Limit limit) = Unit {0}
 IsWritten (Show name) = Unit {0}
+IsWritten (Basis name) = Unit {0}
+IsWritten (Member name vector) = Unit {0}
 IsWritten Later = Unit {0}
 
 -- so it is with a line's command

@@ -5,7 +5,8 @@ use Rattle.std.specs.List.{list_all}
 use Rattle.std.specs.Map.{lookup}
 use Rattle.std.specs.Str.{bytes_eq}
 use Rattle.sf_algebra.specs.Matrices.{Matrix}
-use Rattle.sf_text.specs.Placed.{has_shape, relations_of, first_fault}
+use Rattle.sf_algebra.specs.Vectors.{Vector}
+use Rattle.sf_text.specs.Placed.{has_shape, relations_of, first_fault, row_vector, is_single_row, first_row, is_homogeneous}
 use Rattle.sf_text.specs.Raw.{RawTerm}
 use Rattle.sf_text.specs.Unknowns.{first_unknown}
 use Rattle.sf_text.specs.declared.ring.Ring.{Ring}
@@ -42,4 +43,14 @@ definition (Some ring) modules name degrees rows =
     ∷ refused_if (not (has_shape (length degrees) rows)) Shape
     ∷ option_map Degree (first_fault 1 degrees placed.rows)
     ∷ refused_if (not (list_all is_degree degrees)) Range
+    ∷ [])
+
+-- the vector that a line gives over generators of these degrees, or why not: the first of these reasons that holds
+abbrev pub vector_given : Ring → List ℤ → List (List (List RawTerm)) → Result Vector Refusal
+vector_given ring degrees rows =
+    let v = row_vector ring degrees (first_row rows) in
+    unless_refused v (
+    option_map Unknown (first_unknown ring.names rows)
+    ∷ refused_if (not (is_single_row (length degrees) rows)) Shape
+    ∷ refused_if (not (is_homogeneous degrees v)) (Degree 1)
     ∷ [])

@@ -13,6 +13,10 @@ pub enum Command {
         modulus: u64,
         names: List<Name>,
     },
+    /// The heading that gives the limit on bases.
+    Limit {
+        limit: i32,
+    },
     /// A module: the degrees of its generators, and its relations, a row each.
     Module {
         name: Name,
@@ -21,6 +25,15 @@ pub enum Command {
     },
     Show {
         name: Name,
+    },
+    /// The reduced basis of a module's relations.
+    Basis {
+        name: Name,
+    },
+    /// Whether a vector over a module's generators, which a matrix of one row writes, is in the span of its relations.
+    Member {
+        name: Name,
+        vector: RawMatrix,
     },
     /// A command that isn't built yet.
     Later,

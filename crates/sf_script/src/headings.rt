@@ -1,17 +1,28 @@
-ghost use Rattle.std.specs.Prelude.{◌≡◌, IsTrue, SomeIff, option_copied};
-ghost use Rattle.sf_script.specs.Headings.{ring_of, opens, enters, are_distinct};
+ghost use Rattle.std.specs.Prelude.{◌≡◌, IsTrue, SomeIff, option_copied, Some, MatchOption, MatchResult};
+ghost use Rattle.sf_script.specs.Headings.{setting_of, ring_of, opens, enters, are_distinct, is_limit, limited, noted};
 
-use crate::heads::Heads;
+use crate::heads::{Heads, Setting};
+use crate::refusal::Refusal;
 use sf_field::Modulus;
 use sf_matrix::Name;
 use sf_text::Ring;
+
+/// What is settled with the ring, where it was given.
+pub fn setting_of(heads: &Heads) -> Option<&Setting>
+    ensures { option_copied result ≡ setting_of heads.now }
+{
+    match heads {
+        Heads::Within(setting) => Some(setting),
+        _ => None,
+    }
+}
 
 /// The ring, where it was given.
 pub fn ring_of(heads: &Heads) -> Option<&Ring>
     ensures { option_copied result ≡ ring_of heads.now }
 {
     match heads {
-        Heads::Within(ring) => Some(ring),
+        Heads::Within(setting) => Some(&setting.ring),
         _ => None,
     }
 }
@@ -49,5 +60,41 @@ fn are_distinct(names: &[Name]) -> bool
     match names.split_first() {
         None => true,
         Some((name, others)) => !others.contains(name) && are_distinct(others),
+    }
+}
+
+/// The first reason to refuse a limit, where there is one.
+pub fn limit_refusal(heads: &Heads, limit: i32) -> Option<Refusal>
+    ensures { MatchResult (limited heads.now limit) (λ after. result ≡ None) (λ refusal. result ≡ Some refusal) }
+{
+    match heads {
+        Heads::Within(setting) if !setting.limited && !setting.noted => {
+            if 1 <= limit && limit <= 60 {
+                None
+            } else {
+                Some(Refusal::Range)
+            }
+        }
+        _ => Some(Refusal::Heading),
+    }
+}
+
+/// Sets a limit that isn't refused.
+pub fn set_limit(heads: &mut Heads, limit: i32)
+    requires { MatchResult (limited heads.old limit) (λ after. Unit) (λ refusal. ⊥) }
+    ensures { limited heads.old limit ≡ Ok heads.new }
+{
+    if let Heads::Within(setting) = heads {
+        setting.limit = limit.unsigned_abs();
+        setting.limited = true;
+    }
+}
+
+/// Notes a line with a reply that isn't a `limit` line.
+pub fn note(heads: &mut Heads)
+    ensures { heads.new ≡ noted heads.old }
+{
+    if let Heads::Within(setting) = heads {
+        setting.noted = true;
     }
 }

@@ -11,8 +11,10 @@ mod refusal;
 mod tests;
 
 pub use command::{Command, Line};
-pub use defining::relations_of;
-pub use headings::{can_open, entered_modulus, ring_of};
-pub use heads::Heads;
+pub use defining::{relations_of, vector_of};
+pub use headings::{
+    can_open, entered_modulus, limit_refusal, note, ring_of, set_limit, setting_of,
+};
+pub use heads::{Heads, Setting};
 pub use reading::read_line;
 pub use refusal::Refusal;

@@ -3,7 +3,7 @@ ghost use Rattle.std.specs.List.{list_all, list_any};
 ghost use Rattle.std.specs.Option.{option_map};
 ghost use Rattle.std.specs.Str.{bytes_eq};
 ghost use Rattle.sf_text.specs.Words.{words, is_space, is_name};
-ghost use Rattle.sf_script.specs.Grammar.{later_words, is_later_word, is_silent, command_of, line_of, only, first, after, spectral_command, ring_command, show_command, module_command, degrees_and_rest, IsWritten, HasWrittenCommand};
+ghost use Rattle.sf_script.specs.Grammar.{later_words, is_later_word, is_silent, command_of, line_of, only, first, after, spectral_command, ring_command, limit_command, show_command, basis_command, member_command, module_command, degrees_and_rest, IsWritten, HasWrittenCommand};
 ghost use Rattle.sf_text.specs.Placed.{is_written_degree};
 
 use crate::command::{Command, Line};
@@ -13,8 +13,7 @@ use sf_text::{begins_with, is_name, make_name, next_word, read_integer, read_mat
 use std::alloc::Global;
 
 /// The command words that the language has and that aren't built yet.
-const LATER_WORDS: [&[u8]; 32] = [
-    b"limit",
+const LATER_WORDS: [&[u8]; 29] = [
     b"map",
     b"complex",
     b"bicomplex",
@@ -23,9 +22,7 @@ const LATER_WORDS: [&[u8]; 32] = [
     b"dv",
     b"seal",
     b"let",
-    b"basis",
     b"syz",
-    b"member",
     b"lift",
     b"kernel",
     b"image",
@@ -96,8 +93,17 @@ fn read_command(alloc: Global, line: &[u8]) -> Result<Option<Command>, OutOfMemo
     if word == b"module".as_slice() {
         return read_module(alloc, arguments);
     }
+    if word == b"limit".as_slice() {
+        return Ok(read_limit(arguments));
+    }
     if word == b"show".as_slice() {
         return read_show(alloc, arguments);
+    }
+    if word == b"basis".as_slice() {
+        return read_basis(alloc, arguments);
+    }
+    if word == b"member".as_slice() {
+        return read_member(alloc, arguments);
     }
     Ok(None)
 }
@@ -132,6 +138,13 @@ fn read_spectral(arguments: &[u8]) -> Option<Command>
     Some(Command::Spectral { version })
 }
 
+fn read_limit(arguments: &[u8]) -> Option<Command>
+    ensures { result ≡ limit_command (words arguments.now) }
+{
+    let limit = read_integer(only_word(arguments)?)?;
+    Some(Command::Limit { limit })
+}
+
 fn read_ring(alloc: Global, arguments: &[u8]) -> Result<Option<Command>, OutOfMemory>
     ensures value { IfOk result (λ r. r ≡ ring_command (words arguments.now)) }
     ensures written { IfOk result (λ r. IfSome r IsWritten) }
@@ -158,6 +171,37 @@ fn read_show(alloc: Global, arguments: &[u8]) -> Result<Option<Command>, OutOfMe
         }
         _ => Ok(None),
     }
+}
+
+fn read_basis(alloc: Global, arguments: &[u8]) -> Result<Option<Command>, OutOfMemory>
+    ensures { IfOk result (λ r. r ≡ basis_command (words arguments.now)) }
+{
+    match only_word(arguments) {
+        Some(word) if is_name(word) => {
+            let name = make_name(alloc, word)?;
+            Ok(Some(Command::Basis { name }))
+        }
+        _ => Ok(None),
+    }
+}
+
+fn read_member(alloc: Global, arguments: &[u8]) -> Result<Option<Command>, OutOfMemory>
+    ensures { IfOk result (λ r. r ≡ member_command (words arguments.now)) }
+{
+    let Some((name, rest)) = next_word(arguments) else {
+        return Ok(None);
+    };
+    let Some(text) = only_word(rest) else {
+        return Ok(None);
+    };
+    let Some(vector) = read_matrix(alloc, text)? else {
+        return Ok(None);
+    };
+    if !is_name(name) {
+        return Ok(None);
+    }
+    let name = make_name(alloc, name)?;
+    Ok(Some(Command::Member { name, vector }))
 }
 
 fn read_module(alloc: Global, arguments: &[u8]) -> Result<Option<Command>, OutOfMemory>

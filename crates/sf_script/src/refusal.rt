@@ -11,10 +11,12 @@ pub enum Refusal {
     Unknown(Name),
     /// This name is to be defined, and is known already.
     Taken(Name),
-    /// A row hasn't an entry for each generator.
+    /// A row hasn't an entry for each generator, or there isn't the one row that is asked for.
     Shape,
     /// The row with this number, counted from 1, is the first that isn't homogeneous.
     Degree(u64),
-    /// A degree is out of its range.
+    /// A degree or a limit is out of its range.
     Range,
+    /// The matrix that is looked at, with so many rows and columns, isn't small for the limit.
+    Large { rows: u64, cols: u64 },
 }

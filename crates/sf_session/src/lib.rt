@@ -1,8 +1,10 @@
 //! A session answers the lines of a script one by one, and `run` answers a whole script.
 #![tactic(auto)]
 
+mod answers;
 mod execution;
 mod laws;
+mod looks;
 mod session;
 #[cfg(test)]
 mod tests;

@@ -3,21 +3,25 @@ ghost use Rattle.std.specs.List.{list_all};
 ghost use Rattle.sf_text.specs.Placed.{is_written_degree};
 ghost use Rattle.sf_script.specs.Grammar.{IsWritten};
 ghost use Rattle.sf_script.specs.Refusals.{module_named};
-ghost use Rattle.sf_reply.specs.Texts.{refusal_text};
-ghost use Rattle.sf_session.specs.State.{start};
-ghost use Rattle.sf_session.specs.Replies.{Step, Carried};
+ghost use Rattle.sf_session.specs.State.{start, noted_state};
+ghost use Rattle.sf_session.specs.Replies.{Step, Says, Carried};
 
+use crate::answers::{basis_told, membership_told, shown};
 use indexmap::IndexMap;
 use sf_field::OutOfMemory;
 use sf_matrix::{List, Matrix, Name};
 use sf_pairs::Strategy;
-use sf_reply::{Presented, Reply, refusal_text, reply_text};
+use sf_reply::{Reply, refusal_text, reply_text};
 use sf_script::{
-    Command, Heads, Line, Refusal, can_open, entered_modulus, read_line, relations_of, ring_of,
+    Command, Heads, Line, Refusal, Setting, can_open, entered_modulus, limit_refusal, note,
+    read_line, relations_of, set_limit,
 };
 use sf_text::{RawMatrix, Ring};
 use std::alloc::Global;
 use std::marker::Model;
+
+/// The greatest sum of the exponents of a lead, where no limit is given.
+const DEFAULT_LIMIT: u32 = 40;
 
 /// What the earlier lines of a script have settled. It answers the next line.
 #[derive(Drop)]
@@ -29,14 +33,14 @@ pub struct Session {
 }
 
 impl Model for Session {
-    ghost use Rattle.sf_script.specs.Headings.{HasFewVariables};
-    ghost use Rattle.sf_session.specs.State.{State, KeepsToVariables};
+    ghost use Rattle.sf_script.specs.Headings.{HasFewVariables, HasLimit};
+    ghost use Rattle.sf_session.specs.State.{State, IsListed, HasModulesIn};
 
     ghost Value = { State };
 
     ghost view = { λ s. record { heads = s.heads; modules = s.modules.entries } };
 
-    ghost invariant = { λ s. HasFewVariables s.heads × KeepsToVariables s.heads s.modules.entries };
+    ghost invariant = { λ s. HasFewVariables s.heads × HasLimit s.heads × IsListed s.heads × HasModulesIn s.heads s.modules.entries };
 }
 
 impl Session {
@@ -59,7 +63,7 @@ impl Session {
     {
         match read_line(self.alloc, text)? {
             Line::Silent => Ok(Vec::new(self.alloc)),
-            Line::Malformed => reply_text(self.alloc, &Reply::Malformed),
+            Line::Malformed => self.say(&Reply::Malformed),
             Line::Read(command) => self.carry_out(command),
         }
     }
@@ -72,14 +76,27 @@ impl Session {
         match command {
             Command::Spectral { version } => self.open(version),
             Command::Ring { modulus, names } => self.enter(modulus, names),
+            Command::Limit { limit } => self.set_limit(limit),
             Command::Module {
                 name,
                 degrees,
                 relations,
             } => self.define(name, degrees, relations),
             Command::Show { name } => self.show(name),
-            Command::Later => refused(self.alloc, Refusal::Unbuilt),
+            Command::Basis { name } => self.basis(name),
+            Command::Member { name, vector } => self.member(name, vector),
+            Command::Later => self.say(&Reply::Refused(Refusal::Unbuilt)),
         }
+    }
+
+    /// The text of a reply to a line that is noted.
+    fn say(&mut self, reply: &Reply<'_>) -> Result<Vec<u8>, OutOfMemory>
+        ensures said { IfOk result (λ text. Says reply.now (noted_state self.old) text.items self.new) }
+        ensures kept { OnErr result (self.new ≡ self.old) }
+    {
+        let text = reply_text(self.alloc, reply)?;
+        note(&mut self.heads);
+        Ok(text)
     }
 
     fn open(&mut self, version: i32) -> Result<Vec<u8>, OutOfMemory>
@@ -87,7 +104,7 @@ impl Session {
         ensures kept { OnErr result (self.new ≡ self.old) }
     {
         if !can_open(&self.heads, version) {
-            return refused(self.alloc, Refusal::Heading);
+            return self.say(&Reply::Refused(Refusal::Heading));
         }
         let reply = reply_text(self.alloc, &Reply::Accepted)?;
         self.heads = Heads::Opened;
@@ -100,10 +117,27 @@ impl Session {
         ensures kept { OnErr result (self.new ≡ self.old) }
     {
         let Some(modulus) = entered_modulus(&self.heads, modulus, names.as_slice()) else {
-            return refused(self.alloc, Refusal::Heading);
+            return self.say(&Reply::Refused(Refusal::Heading));
         };
         let reply = reply_text(self.alloc, &Reply::Accepted)?;
-        self.heads = Heads::Within(Ring { modulus, names });
+        self.heads = Heads::Within(Setting {
+            ring: Ring { modulus, names },
+            limit: DEFAULT_LIMIT,
+            limited: false,
+            noted: false,
+        });
+        Ok(reply)
+    }
+
+    fn set_limit(&mut self, limit: i32) -> Result<Vec<u8>, OutOfMemory>
+        ensures reply { IfOk result (λ reply. Carried (Command.Limit limit) self.old reply.items self.new) }
+        ensures kept { OnErr result (self.new ≡ self.old) }
+    {
+        if let Some(refusal) = limit_refusal(&self.heads, limit) {
+            return refusal_text(self.alloc, &refusal);
+        }
+        let reply = reply_text(self.alloc, &Reply::Accepted)?;
+        set_limit(&mut self.heads, limit);
         Ok(reply)
     }
 
@@ -125,26 +159,54 @@ impl Session {
             degrees,
             &relations,
         )? {
-            Err(refusal) => refused(self.alloc, refusal),
+            Err(refusal) => self.say(&Reply::Refused(refusal)),
             Ok(relations) => {
                 let reply = reply_text(self.alloc, &Reply::Accepted)?;
                 add_module(&mut self.modules, name, relations)?;
+                note(&mut self.heads);
                 Ok(reply)
             }
         }
     }
 
-    fn show(&self, name: Name) -> Result<Vec<u8>, OutOfMemory>
-        ensures { IfOk result (λ reply. Carried (Command.Show name) self.now reply.items self.now) }
+    fn show(&mut self, name: Name) -> Result<Vec<u8>, OutOfMemory>
+        ensures reply { IfOk result (λ reply. Carried (Command.Show name) self.old reply.items self.new) }
+        ensures kept { OnErr result (self.new ≡ self.old) }
     {
-        match (ring_of(&self.heads), self.modules.get(&name)) {
-            (Some(ring), Some(relations)) => {
-                let names = ring.names.as_slice();
-                reply_text(self.alloc, &Reply::Module(Presented { names, relations }))
-            }
-            (None, _) => refused(self.alloc, Refusal::Heading),
-            (Some(_), None) => refused(self.alloc, Refusal::Unknown(name)),
-        }
+        let reply = shown(self.alloc, &self.heads, &self.modules, name)?;
+        note(&mut self.heads);
+        Ok(reply)
+    }
+
+    fn basis(&mut self, name: Name) -> Result<Vec<u8>, OutOfMemory>
+        ensures reply { IfOk result (λ reply. Carried (Command.Basis name) self.old reply.items self.new) }
+        ensures kept { OnErr result (self.new ≡ self.old) }
+    {
+        let reply = basis_told(
+            self.alloc,
+            &self.heads,
+            &self.modules,
+            &mut self.strategy,
+            name,
+        )?;
+        note(&mut self.heads);
+        Ok(reply)
+    }
+
+    fn member(&mut self, name: Name, vector: RawMatrix) -> Result<Vec<u8>, OutOfMemory>
+        ensures reply { IfOk result (λ reply. Carried (Command.Member name vector) self.old reply.items self.new) }
+        ensures kept { OnErr result (self.new ≡ self.old) }
+    {
+        let reply = membership_told(
+            self.alloc,
+            &self.heads,
+            &self.modules,
+            &mut self.strategy,
+            name,
+            &vector,
+        )?;
+        note(&mut self.heads);
+        Ok(reply)
     }
 }
 
@@ -160,10 +222,4 @@ fn add_module(
 {
     modules.insert(name, relations)?;
     Ok(())
-}
-
-fn refused(alloc: Global, refusal: Refusal) -> Result<Vec<u8>, OutOfMemory>
-    ensures { IfOk result (λ text. text.items ≡ refusal_text refusal) }
-{
-    refusal_text(alloc, &refusal)
 }

@@ -6,6 +6,8 @@ use crate::execution::{Status, run};
 use sf_io::{MemSink, MemSource};
 use sf_pairs::{FirstStrategy, Strategy};
 use std::alloc::Global;
+use std::cell::Cell;
+use std::rc::Rc;
 use std::test::Fail;
 
 const FIRST: &[u8] = b"spectral 1\nring 101 x y\nmodule K degrees 0 relations [x;y]\nshow K\n";
@@ -49,11 +51,11 @@ fn answers_scripts(rt: HostRuntime) -> Result<(), Fail> {
         (FIRST, FIRST_REPLIES),
         (
             b"show K\nspectral 2\nspectral 000001\nspectral 1",
-            b"error later\nerror later\nok\nerror later\n",
+            b"error ring\nerror ring\nok\nerror ring\n",
         ),
         (
             b"spectral 1\nring 9 x\nring 101 x x\nring 0101 x\nring 101 x\n",
-            b"ok\nerror later\nerror later\nok\nerror later\n",
+            b"ok\nerror ring\nerror ring\nok\nerror ring\n",
         ),
         (
             b"modul K\n show K\nshow K L\nshow 1\nshow K\r\r\nmodule\n",
@@ -61,8 +63,8 @@ fn answers_scripts(rt: HostRuntime) -> Result<(), Fail> {
         ),
         (b"\n  \n# note\n\r\n#\xff\0", b""),
         (
-            b"@\nbasis K\nlimit x\n",
-            b"error later\nerror later\nerror later\n",
+            b"@\nsyz K\nbasis K\nlimit 1\nlimit x\nshow K\n",
+            b"error later\nerror later\nerror ring\nerror ring\nerror syntax 0\nerror ring\n",
         ),
         (
             b"spectral 1\r\nring 2 a\r\nmodule A degrees -7 relations []  \r\nshow  A\r\n",
@@ -74,7 +76,7 @@ fn answers_scripts(rt: HostRuntime) -> Result<(), Fail> {
         ),
         (
             b"spectral 1\nring 3 x y\nmodule A degrees 2001 relations [x;x+1]\nmodule A degrees 2001 relations [x]\nmodule A degrees 0 relations [z+1]\nmodule A degrees 0 relations [x,y]\nmodule A degrees relations []\nmodule A degrees 0 relations [1]\n",
-            b"ok\nok\nerror degree 2\nerror later\nerror later\nerror later\nok\nerror later\n",
+            b"ok\nok\nerror degree 2\nerror range\nerror name z\nerror shape\nok\nerror taken A\n",
         ),
     ];
     for (script, wanted) in cases {
@@ -82,6 +84,73 @@ fn answers_scripts(rt: HostRuntime) -> Result<(), Fail> {
         assert_eq!(rt; status, Status::Done);
         assert_eq!(rt; sink.bytes(), wanted);
     }
+    Ok(())
+}
+
+const BASES: &[u8] =
+    b"spectral 1\nring 101 x y\nmodule N degrees 0 relations [x^2;x*y+y^2]\nbasis N\nmember N [y^3]\nmember N [y^2]\n";
+
+const BASES_REPLIES: &[u8] =
+    b"ok\nok\nok\nbasis (2,2,3)->(0) [x^2;x*y+y^2;y^3]\nmember yes\nmember no\n";
+
+#[test]
+fn answers_by_bases(rt: HostRuntime) -> Result<(), Fail> {
+    let cases: [(&[u8], &[u8]); 4] = [
+        (BASES, BASES_REPLIES),
+        (
+            b"spectral 1\nring 101 x y\nlimit 2\nmodule N degrees 0 relations [x^2;x*y+y^2]\nbasis N\nmodule K degrees 0 relations [x;y]\nbasis K\nmember N [x^3]\n",
+            b"ok\nok\nok\nok\nerror large 2 1\nok\nbasis (1,1)->(0) [x;y]\nerror large 2 1\n",
+        ),
+        (
+            b"spectral 1\nring 101 x y\nlimit 61\nlimit 1\nmodule K degrees 0 relations [x;y]\nbasis K\nlimit 5\nmember K [x+1]\nmember K [w,1]\nmember K []\nmember L [w]\n",
+            b"ok\nok\nerror range\nok\nok\nbasis (1,1)->(0) [x;y]\nerror ring\nerror degree 1\nerror name w\nerror shape\nerror name L\n",
+        ),
+        (
+            b"spectral 1\nring 101 x y\nmodule F degrees 0 3 relations []\nbasis F\nmember F [0,0]\nmember F [x,0]\nmodule Z degrees relations []\nmember Z []\n",
+            b"ok\nok\nok\nbasis ()->(0,3) []\nmember yes\nmember no\nok\nmember yes\n",
+        ),
+    ];
+    for (script, wanted) in cases {
+        let (status, sink) = answered(rt.alloc(), &["run"], script)?;
+        assert_eq!(rt; status, Status::Done);
+        assert_eq!(rt; sink.bytes(), wanted);
+    }
+    Ok(())
+}
+
+/// Takes the last pair, and counts how often it was asked.
+#[derive(Drop)]
+struct Counting {
+    calls: Rc<Cell<u32>>,
+}
+
+impl Strategy for Counting {
+    fn choose(&mut self, count: usize) -> usize {
+        self.calls.set(self.calls.get().saturating_add(1));
+        count - 1
+    }
+
+    fn told(&mut self, _zero: bool) {}
+}
+
+#[test]
+fn answers_by_any_strategy(rt: HostRuntime) -> Result<(), Fail> {
+    let alloc = rt.alloc();
+    let calls = Rc::new(alloc, Cell::new(0))?;
+    let counting = Counting {
+        calls: calls.clone()?,
+    };
+    let mut strategies: Vec<Box<dyn Strategy>> = Vec::new(alloc);
+    strategies.push(Box::new(alloc, counting)?)?;
+    let mut words = Vec::new(alloc);
+    words.push(String::from_str(alloc, "run")?)?;
+    let mut source = MemSource::new(Vec::from_slice(alloc, BASES)?, 4096, Vec::new(alloc));
+    let mut sink = MemSink::new(alloc, 4096, Vec::new(alloc));
+    sink.reserve(4096)?;
+    let status = run(alloc, words.as_slice(), &mut source, &mut sink, strategies);
+    assert_eq!(rt; status, Status::Done);
+    assert_eq!(rt; sink.bytes(), BASES_REPLIES);
+    assert!(rt; 0 < calls.get());
     Ok(())
 }
 

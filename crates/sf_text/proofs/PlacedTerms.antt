@@ -5,8 +5,8 @@ use Rattle.std.specs.Str.{bytes_eq}
 use Rattle.std.proofs.lemmas.Bool.{cases_lt}
 use Rattle.std.proofs.lemmas.List.{get_or_past, get_or-map, get_or_read, length-map}
 use Rattle.std.proofs.lemmas.List.Sums.{sum_by-cons, sum_by-drop_more}
-use Rattle.sf_algebra.specs.Monomials.{from_exponents}
-use Rattle.sf_text.specs.Placed.{exponent_in, monomial_of}
+use Rattle.sf_algebra.specs.Monomials.{exponent_sum, from_exponents}
+use Rattle.sf_text.specs.Placed.{GREATEST_WRITTEN_SUM, exponent_in, monomial_of}
 
 -- factors with exponents of at most three digits
 abbrev pub HasSmallExponents : List (List ℕ × ℕ) → Type 0
@@ -93,6 +93,16 @@ module _ (factors : List (List ℕ × ℕ)) (names : List (List ℕ)) (place : �
   pub AreExponents-fit : length factors ≤ 6 → HasSmallExponents factors → sum exponents ≤ 65535
   AreExponents-fit few small =
       omega (arith, sum_le exponents 5994 (AreExponents-le factors names place exponents h few small), h.size)
+
+  pub AreExponents-small : length factors ≤ 6 → HasSmallExponents factors
+      → exponent_sum (from_exponents exponents) ≤ GREATEST_WRITTEN_SUM
+  AreExponents-small few small =
+      let le : (k : ℕ) → get_or exponents k 0 ≤ 5994 = AreExponents-le factors names place exponents h few small in
+      six _ _ _ _ _ _ (le 0) (le 1) (le 2) (le 3) (le 4) (le 5)
+    where
+      six : (a b c d e f : ℕ) → a ≤ 5994 → b ≤ 5994 → c ≤ 5994 → d ≤ 5994 → e ≤ 5994 → f ≤ 5994
+          → a + b + c + d + e + f ≤ GREATEST_WRITTEN_SUM
+      six a b c d e f ha hb hc hd he hf = omega arith
 
   -- and at the end they are those of the factors' product
   pub AreExponents-monomial : length names ≡ place → from_exponents exponents ≡ monomial_of names factors

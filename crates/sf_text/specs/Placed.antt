@@ -1,10 +1,10 @@
 -- What a matrix means that a script writes, in a ring and over a free module.
-use Rattle.std.specs.Prelude.{ℕ, Bool, ◌+◌, ◌%◌, ◌&&◌, ◌==◌, if◌then◌else◌, Option, Some, None, List, [], ◌∷◌, ◌++◌, length, map, sum_by, ℤ, pos, neg_ℤ, int_le}
+use Rattle.std.specs.Prelude.{ℕ, Bool, false, ◌+◌, ◌≤◌, ◌%◌, ◌&&◌, ◌==◌, if◌then◌else◌, Option, Some, None, List, [], ◌∷◌, ◌++◌, length, map, sum_by, ℤ, pos, neg_ℤ, int_le}
 use Rattle.std.specs.Ordering.{int_eq}
 use Rattle.std.specs.List.{list_all}
 use Rattle.std.specs.Str.{bytes_eq}
 use Rattle.sf_algebra.specs.Matrices.{Matrix}
-use Rattle.sf_algebra.specs.Monomials.{Monomial, from_exponents}
+use Rattle.sf_algebra.specs.Monomials.{Monomial, exponent_sum, from_exponents}
 use Rattle.sf_algebra.specs.Residues.{negative_mod}
 use Rattle.sf_algebra.specs.Rings.{plain, ones}
 use Rattle.sf_algebra.specs.Sums.{normal}
@@ -20,6 +20,15 @@ exponent_in factors name = sum_by (λ (f : List ℕ × ℕ). if bytes_eq f.0 nam
 -- the product of some factors, in the ring with these variables
 abbrev pub monomial_of : List (List ℕ) → List (List ℕ × ℕ) → Monomial
 monomial_of names factors = from_exponents (map (exponent_in factors) names)
+
+-- the greatest sum of the exponents of such a product, of at most six factors with exponents of at most three digits, where a
+-- variable may stand several times among the names
+abbrev pub GREATEST_WRITTEN_SUM : ℕ
+GREATEST_WRITTEN_SUM = 35964
+
+-- the exponents of a term have at most this sum
+abbrev pub IsWrittenTerm : Term Place → Type 0
+IsWrittenTerm t = exponent_sum t.at.monomial ≤ GREATEST_WRITTEN_SUM
 
 -- the residue of a coefficient with its sign
 abbrev pub residue_of : ℕ → RawTerm → ℕ
@@ -55,6 +64,17 @@ relations_of ring degrees rows = record {
 -- each row has an entry for each generator
 abbrev pub has_shape : ℕ → List (List (List RawTerm)) → Bool
 has_shape columns = list_all (λ (row : List (List RawTerm)). length row == columns)
+
+-- a matrix has one row of so many columns; over no column it is written as one without rows
+abbrev pub is_single_row : ℕ → List (List (List RawTerm)) → Bool
+is_single_row columns [] = columns == 0
+is_single_row columns (row ∷ []) = length row == columns
+is_single_row columns (row ∷ other ∷ rows) = false
+
+-- the entries of the first row, where there is one
+abbrev pub first_row : List (List (List RawTerm)) → List (List RawTerm)
+first_row [] = []
+first_row (row ∷ rows) = row
 
 -- all terms of a vector have its degree
 abbrev pub is_homogeneous : List ℤ → Vector → Bool

@@ -10,7 +10,7 @@ mod tokens;
 mod words;
 
 pub use matrix_text::read_matrix;
-pub use placing::{first_unknown, has_shape, place_rows};
+pub use placing::{first_row, first_unknown, has_shape, is_single_row, place_row, place_rows};
 pub use printing::{print_degrees, print_matrix};
 pub use raw::{RawMatrix, RawTerm};
 pub use ring::Ring;

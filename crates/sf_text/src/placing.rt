@@ -5,5 +5,9 @@ mod rows;
 mod shape;
 mod term;
 
+pub use row::place_row;
 pub use rows::place_rows;
-pub use shape::{first_unknown, has_shape};
+pub use shape::{first_row, first_unknown, has_shape, is_single_row};
+
+#[cfg(test)]
+mod tests;

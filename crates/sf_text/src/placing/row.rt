@@ -1,9 +1,9 @@
 ghost use Rattle.std.specs.Prelude.{◌≡◌, ◌≤◌, ◌++◌, length, map, IfOk, IfSome, OnOk, SomeIff, IsTrue};
-ghost use Rattle.std.specs.List.{list_all};
+ghost use Rattle.std.specs.List.{AllByRecursion, list_all};
 ghost use Rattle.std.specs.Ordering.{int_eq};
 ghost use Rattle.sf_algebra.specs.Rings.{plain, ones};
 ghost use Rattle.sf_algebra.specs.Vectors.{IsVector, generator_degree, place_degree, row_degree};
-ghost use Rattle.sf_text.specs.Placed.{placed_term, placed_terms, row_vector, is_homogeneous, is_written_degree};
+ghost use Rattle.sf_text.specs.Placed.{IsWrittenTerm, placed_term, placed_terms, row_vector, is_homogeneous, is_written_degree};
 
 use super::term::placed_term;
 use crate::raw::RawTerm;
@@ -25,6 +25,7 @@ pub fn place_row(
     ensures value { IfOk result (λ r.
         SomeIff r (IsTrue (is_homogeneous degrees.now (row_vector ring.now degrees.now entries.now))) (row_vector ring.now degrees.now entries.now)) }
     ensures vector { IfOk result (λ r. IfSome r (IsVector (plain ring.now.modulus) degrees.now)) }
+    ensures small { IfOk result (λ r. IfSome r (λ v. AllByRecursion IsWrittenTerm v.terms)) }
 {
     let terms = placed_terms(alloc, ring, entries)?;
     let terms = sum_of_terms(alloc, ring.modulus, &terms)?;
@@ -43,7 +44,8 @@ fn placed_terms(
     entries: &[List<RawTerm>],
 ) -> Result<Vec<Term>, OutOfMemory>
     requires few { length ring.now.names ≤ 6 }
-    ensures { IfOk result (λ v. v.items ≡ placed_terms ring.now 0 entries.now) }
+    ensures terms { IfOk result (λ v. v.items ≡ placed_terms ring.now 0 entries.now) }
+    ensures small { IfOk result (λ v. AllByRecursion IsWrittenTerm v.items) }
 {
     let mut terms = Vec::new(alloc);
     for (column, entry) in entries.iter().enumerate() {
@@ -59,7 +61,8 @@ fn push_entry(
     entry: &[RawTerm],
 ) -> Result<(), OutOfMemory>
     requires few { length ring.now.names ≤ 6 }
-    ensures { OnOk result (terms.new.items ≡ terms.old.items ++ map (placed_term ring.now column) entry.now) }
+    ensures terms { OnOk result (terms.new.items ≡ terms.old.items ++ map (placed_term ring.now column) entry.now) }
+    ensures small { AllByRecursion IsWrittenTerm terms.old.items → AllByRecursion IsWrittenTerm terms.new.items }
 {
     for term in entry {
         terms.push(placed_term(ring, column, term))?;

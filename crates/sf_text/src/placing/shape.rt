@@ -1,6 +1,6 @@
 ghost use Rattle.std.specs.Prelude.{◌≡◌, option_copied};
 ghost use Rattle.std.specs.List.{list_all};
-ghost use Rattle.sf_text.specs.Placed.{has_shape};
+ghost use Rattle.sf_text.specs.Placed.{has_shape, is_single_row, first_row};
 ghost use Rattle.sf_text.specs.Unknowns.{knows_factor, knows_term, knows_entry, knows_row, first_failing, first_unknown};
 
 use crate::raw::RawTerm;
@@ -74,4 +74,25 @@ pub fn has_shape(columns: usize, rows: &[List<List<RawTerm>>]) -> bool
     ensures { result ≡ has_shape columns rows.now }
 {
     rows.iter().all(|row| row.len() == columns)
+}
+
+/// Whether there is one row, with an entry for each of the columns. Over no column it is written as no row.
+pub fn is_single_row(columns: usize, rows: &[List<List<RawTerm>>]) -> bool
+    ensures { result ≡ is_single_row columns rows.now }
+{
+    match rows {
+        [] => columns == 0,
+        [row] => row.len() == columns,
+        _ => false,
+    }
+}
+
+/// The entries of the first row, where there is one.
+pub fn first_row(rows: &[List<List<RawTerm>>]) -> &[List<RawTerm>]
+    ensures { result.now ≡ first_row rows.now }
+{
+    match rows.first() {
+        None => &[],
+        Some(row) => row.as_slice(),
+    }
 }

@@ -1,6 +1,7 @@
 ghost use Rattle.std.specs.Prelude.{◌≡◌, ◌≤◌, length};
 ghost use Rattle.std.specs.List.{AllByRecursion};
-ghost use Rattle.sf_text.specs.Placed.{exponent_in, monomial_of, residue_of, placed_term};
+ghost use Rattle.sf_algebra.specs.Monomials.{exponent_sum};
+ghost use Rattle.sf_text.specs.Placed.{GREATEST_WRITTEN_SUM, IsWrittenTerm, exponent_in, monomial_of, residue_of, placed_term};
 
 use crate::raw::RawTerm;
 use crate::ring::Ring;
@@ -11,7 +12,8 @@ use sf_mono::Mono;
 /// A term at a column.
 pub fn placed_term(ring: &Ring, column: u64, term: &RawTerm) -> Term
     requires few { length ring.now.names ≤ 6 }
-    ensures { result ≡ placed_term ring.now column term.now }
+    ensures term { result ≡ placed_term ring.now column term.now }
+    ensures small { IsWrittenTerm result }
 {
     Term {
         position: column,
@@ -35,7 +37,8 @@ fn residue_of(modulus: Modulus, term: &RawTerm) -> u32
 /// The product of the factors.
 fn monomial_of(names: &[Name], term: &RawTerm) -> Mono
     requires few { length names.now ≤ 6 }
-    ensures { result ≡ monomial_of names.now term.now.factors }
+    ensures monomial { result ≡ monomial_of names.now term.now.factors }
+    ensures small { exponent_sum result ≤ GREATEST_WRITTEN_SUM }
 {
     let factors = term.factors.as_slice();
     let mut exponents = [0; 6];
