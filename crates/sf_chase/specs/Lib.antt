@@ -1,0 +1,4 @@
+pub mod Columns
+pub mod Filtrations
+pub mod ColumnPages
+pub mod Staircases
