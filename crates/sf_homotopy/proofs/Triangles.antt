@@ -1,0 +1,4 @@
+-- Block triangular matrices with exact blocks on the diagonal: two blocks, and any number.
+pub mod TriangleLifts
+pub mod ExactTriangles
+pub mod BlockTriangles
