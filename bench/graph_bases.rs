@@ -7,6 +7,9 @@
 //! The jobs are seven dense cubics in five variables, six dense quartics in four, and a hundred small modules, all
 //! modulo 32003.
 
+mod common;
+
+use common::{Generator, merge};
 use std::cmp::Ordering;
 use std::collections::BTreeMap;
 use std::fmt::Write;
@@ -99,21 +102,6 @@ struct Matrix {
     rows: Vec<Row>,
 }
 
-struct Generator {
-    state: u32,
-}
-
-impl Generator {
-    fn next_number(&mut self) -> u32 {
-        self.state = ((self.state as u64 * 1103515245 + 12345) % 2147483648) as u32;
-        self.state / 65536
-    }
-
-    fn next_coefficient(&mut self) -> u32 {
-        self.next_number() % (P as u32 - 1) + 1
-    }
-}
-
 /// The monomials of a degree in some variables, the greatest first.
 fn monomials(variables: usize, degree: u16) -> Vec<Mono> {
     fn extend(variables: usize, from: usize, left: u16, exponents: &mut [u16; 6], all: &mut Vec<Mono>) {
@@ -144,7 +132,7 @@ fn form(generator: &mut Generator, variables: usize, position: u32, degree: u16)
         .into_iter()
         .map(|monomial| Term {
             position,
-            coefficient: generator.next_coefficient(),
+            coefficient: generator.next_coefficient(P as u32),
             monomial,
         })
         .collect()
@@ -190,36 +178,11 @@ struct Buckets {
     lists: Vec<(Vec<Term>, usize)>,
 }
 
-fn merge(left: &[Term], right: &[Term]) -> Vec<Term> {
-    let mut sum = Vec::with_capacity(left.len() + right.len());
-    let (mut i, mut j) = (0, 0);
-    while i < left.len() && j < right.len() {
-        match left[i].compare(&right[j]) {
-            Ordering::Greater => {
-                sum.push(left[i]);
-                i += 1;
-            }
-            Ordering::Less => {
-                sum.push(right[j]);
-                j += 1;
-            }
-            Ordering::Equal => {
-                let coefficient =
-                    ((left[i].coefficient as u64 + right[j].coefficient as u64) % P) as u32;
-                if coefficient != 0 {
-                    sum.push(Term {
-                        coefficient,
-                        ..left[i]
-                    });
-                }
-                i += 1;
-                j += 1;
-            }
-        }
-    }
-    sum.extend_from_slice(&left[i..]);
-    sum.extend_from_slice(&right[j..]);
-    sum
+fn sum(left: &[Term], right: &[Term]) -> Vec<Term> {
+    merge(left, right, Term::compare, |t, u| {
+        let coefficient = ((t.coefficient as u64 + u.coefficient as u64) % P) as u32;
+        (coefficient != 0).then_some(Term { coefficient, ..*t })
+    })
 }
 
 impl Buckets {
@@ -238,7 +201,7 @@ impl Buckets {
             }
             let (list, from) = &self.lists[level];
             if *from < list.len() {
-                terms = merge(&list[*from..], &terms);
+                terms = sum(&list[*from..], &terms);
             }
             if terms.len() <= 4usize.pow(level as u32 + 1) {
                 self.lists[level] = (terms, 0);

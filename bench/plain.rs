@@ -3,6 +3,9 @@
 //!
 //! usage: plain product|sum|kron|kron_of_any ROUNDS
 
+mod common;
+
+use common::{Generator, merge};
 use std::cmp::Ordering;
 use std::collections::HashMap;
 use std::hint::black_box;
@@ -15,21 +18,6 @@ type Poly = Vec<(Mono, u32)>;
 
 /// A vector: its terms with their generators, the greatest first.
 type Vector = Vec<(u64, Mono, u32)>;
-
-struct Generator {
-    state: u32,
-}
-
-impl Generator {
-    fn next_number(&mut self) -> u32 {
-        self.state = ((self.state as u64 * 1103515245 + 12345) % 2147483648) as u32;
-        self.state / 65536
-    }
-
-    fn next_coefficient(&mut self, p: u32) -> u32 {
-        self.next_number() % (p - 1) + 1
-    }
-}
 
 /// The degree reverse lexicographic order.
 fn compare(a: &Mono, b: &Mono) -> Ordering {
@@ -68,31 +56,10 @@ fn product(left: &Poly, right: &Poly, p: u32) -> Poly {
 
 /// A sum by a merge.
 fn sum(left: &Vector, right: &Vector, p: u32) -> Vector {
-    let mut sum = Vec::with_capacity(left.len() + right.len());
-    let (mut i, mut j) = (0, 0);
-    while i < left.len() && j < right.len() {
-        match compare_places(&left[i], &right[j]) {
-            Ordering::Greater => {
-                sum.push(left[i]);
-                i += 1;
-            }
-            Ordering::Less => {
-                sum.push(right[j]);
-                j += 1;
-            }
-            Ordering::Equal => {
-                let coefficient = add_mod(left[i].2, right[j].2, p);
-                if coefficient != 0 {
-                    sum.push((left[i].0, left[i].1, coefficient));
-                }
-                i += 1;
-                j += 1;
-            }
-        }
-    }
-    sum.extend_from_slice(&left[i..]);
-    sum.extend_from_slice(&right[j..]);
-    sum
+    merge(left, right, compare_places, |t, u| {
+        let coefficient = add_mod(t.2, u.2, p);
+        (coefficient != 0).then_some((t.0, t.1, coefficient))
+    })
 }
 
 /// The Kronecker product of a matrix with an identity of this size: each row is repeated, at other generators.
