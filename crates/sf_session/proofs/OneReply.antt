@@ -20,7 +20,7 @@ use Rattle.sf_script.specs.declared.refusal.Refusal.{Refusal}
 use Rattle.sf_reply.specs.Texts.{reply_text}
 use Rattle.sf_reply.specs.declared.reply.Reply.TheVariants as told
 use Rattle.sf_session.specs.Looks.{Looks, Decided, basis_matrix}
-use Rattle.sf_session.specs.Replies.{Gives, Refused, TooLarge, Carried, Answered, Step}
+use Rattle.sf_session.specs.Replies.{Writes, Refused, TooLarge, Carried, Answered, Step}
 use Rattle.sf_session.specs.State.{State, IsListed, IsModuleIn, noted_state}
 use Rattle.sf_session.proofs.OneLook.{in_span_or_not, look_exists, look_unique}
 use Rattle.sf_session.proofs.Placed.{given, over_field}
@@ -34,8 +34,8 @@ pub record IsOne (P : List ℕ → State → Type 0) : Type 0 where
   pub met : P reply state
   pub only : (other : List ℕ) (new : State) → P other new → (other ≡ reply) × (new ≡ state)
 
-pub IsOne-Gives : (text : List ℕ) (after : State) → IsSound after → IsOne (Gives text after)
-IsOne-Gives text after sound =
+pub IsOne-Writes : (text : List ℕ) (after : State) → IsSound after → IsOne (Writes text after)
+IsOne-Writes text after sound =
     record { reply = text; state = after; sound = sound; met = (refl, refl); only = λ other new h. h }
 
 pub IsOne-MatchBool : (b : Bool) {P Q : List ℕ → State → Type 0} → (b ≡ true → IsOne P) → IsOne Q
@@ -110,7 +110,7 @@ noted_sound : (old : State) → IsSound old → IsSound (noted_state old)
 noted_sound old sound = AreSound-noted old.heads old.modules sound
 
 refused : (refusal : Refusal) (old : State) → IsSound old → IsOne (Refused refusal old)
-refused refusal old sound = IsOne-Gives (reply_text (told.Refused refusal)) (noted_state old) (noted_sound old sound)
+refused refusal old sound = IsOne-Writes (reply_text (told.Refused refusal)) (noted_state old) (noted_sound old sound)
 
 too_large : (m : Matrix) (old : State) → IsSound old → IsOne (TooLarge m old)
 too_large m old sound = refused (Large (length m.rows) (length m.target)) old sound
@@ -133,29 +133,29 @@ IsOne-looked name old sound p =
 pub IsOne-Carried : (command : Command) (old : State) → IsSound old → IsOne (Carried command old)
 IsOne-Carried (Spectral version) old sound =
     IsOne-MatchBool (opens old.heads version)
-    (λ e. IsOne-Gives _ _ (AreSound-opened old.heads old.modules version e sound))
+    (λ e. IsOne-Writes _ _ (AreSound-opened old.heads old.modules version e sound))
     (refused Heading old sound)
 IsOne-Carried (Ring modulus names) old sound =
     IsOne-MatchBool (enters old.heads modulus names)
-    (λ e. IsOne-Gives _ _ (AreSound-entered old.heads old.modules modulus names e sound))
+    (λ e. IsOne-Writes _ _ (AreSound-entered old.heads old.modules modulus names e sound))
     (refused Heading old sound)
 IsOne-Carried (Limit limit) old sound =
     IsOne-MatchResult (limited old.heads limit)
-    (λ heads e. IsOne-Gives _ _ (AreSound-limited old.heads old.modules limit heads e sound))
-    (λ refusal. IsOne-Gives _ _ sound)
+    (λ heads e. IsOne-Writes _ _ (AreSound-limited old.heads old.modules limit heads e sound))
+    (λ refusal. IsOne-Writes _ _ sound)
 IsOne-Carried (Module name degrees relations) old sound =
     IsOne-MatchResult (definition (ring_of old.heads) old.modules name degrees relations.rows)
-    (λ placed e. IsOne-Gives _ _ (AreSound-defined old.heads old.modules name degrees relations.rows placed e sound))
+    (λ placed e. IsOne-Writes _ _ (AreSound-defined old.heads old.modules name degrees relations.rows placed e sound))
     (λ refusal. refused refusal old sound)
 IsOne-Carried (Show name) old sound =
     IsOne-MatchOption (ring_of old.heads) (refused Heading old sound) (λ r e.
     IsOne-MatchOption (module_named name old.modules) (refused (Unknown name) old sound) (λ relations f.
-    IsOne-Gives _ _ (noted_sound old sound)))
+    IsOne-Writes _ _ (noted_sound old sound)))
 IsOne-Carried (Basis name) old sound =
     IsOne-looked name old sound (λ setting relations listed inside prime.
     IsOne-Looks setting.limit relations prime inside.matrix
     (λ elements.
-    IsOne-Gives (reply_text (told.Basis (record { names = setting.ring.names; relations = basis_matrix relations elements })))
+    IsOne-Writes (reply_text (told.Basis (record { names = setting.ring.names; relations = basis_matrix relations elements })))
     (noted_state old) (noted_sound old sound))
     (too_large relations old sound))
 IsOne-Carried (Member name vector) old sound =
@@ -167,15 +167,15 @@ IsOne-Carried (Member name vector) old sound =
     IsOne-Looks setting.limit relations prime inside.matrix
     (λ elements.
     IsOne-Decided (InSpan relations v) (in_span_or_not relations prime inside.matrix v v_in)
-    (IsOne-Gives (reply_text (told.Member true)) (noted_state old) (noted_sound old sound))
-    (IsOne-Gives (reply_text (told.Member false)) (noted_state old) (noted_sound old sound)))
+    (IsOne-Writes (reply_text (told.Member true)) (noted_state old) (noted_sound old sound))
+    (IsOne-Writes (reply_text (told.Member false)) (noted_state old) (noted_sound old sound)))
     (too_large relations old sound))
     (λ refusal. refused refusal old sound))
 IsOne-Carried Later old sound = refused Unbuilt old sound
 
 pub IsOne-Answered : (line : Line) (old : State) → IsSound old → IsOne (Answered line old)
-IsOne-Answered Silent old sound = IsOne-Gives [] old sound
-IsOne-Answered Malformed old sound = IsOne-Gives (reply_text told.Malformed) (noted_state old) (noted_sound old sound)
+IsOne-Answered Silent old sound = IsOne-Writes [] old sound
+IsOne-Answered Malformed old sound = IsOne-Writes (reply_text told.Malformed) (noted_state old) (noted_sound old sound)
 IsOne-Answered (Read command) old sound = IsOne-Carried command old sound
 
 pub IsOne-Step : (old : State) (line : List ℕ) → IsSound old → IsOne (Step old line)

@@ -20,12 +20,12 @@ use Rattle.sf_session.specs.Looks.{Looks, Decided, basis_matrix}
 use Rattle.sf_session.specs.State.{State, noted_state}
 
 -- the text is this one, and the state after it is this one
-abbrev pub Gives : List ℕ → State → List ℕ → State → Type 0
-Gives given after text new = (text ≡ given) × (new ≡ after)
+abbrev pub Writes : List ℕ → State → List ℕ → State → Type 0
+Writes given after text new = (text ≡ given) × (new ≡ after)
 
 -- the text is that of this reply, and the state after it is this one
 abbrev pub Says : Reply → State → List ℕ → State → Type 0
-Says reply after text new = Gives (reply_text reply) after text new
+Says reply after text new = Writes (reply_text reply) after text new
 
 -- the line is accepted and leaves this state, or it is refused for this reason and only noted
 abbrev pub Accepted : State → List ℕ → State → Type 0
@@ -85,7 +85,7 @@ Carried Later old text new = Refused Unbuilt old text new
 
 -- what a line gives
 abbrev pub Answered : Line → State → List ℕ → State → Type 0
-Answered Silent old text new = Gives [] old text new
+Answered Silent old text new = Writes [] old text new
 Answered Malformed old text new = Says told.Malformed (noted_state old) text new
 Answered (Read command) old text new = Carried command old text new
 

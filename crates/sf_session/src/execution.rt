@@ -61,8 +61,8 @@ enum Stop {
 
 /// Reads a script from the source to its end, and writes the reply to each line as soon as it is known.
 ///
-/// The words are those after the program's name. The session has the first of the strategies. No command
-/// asks a strategy yet, so any other gives the same bytes.
+/// The words are those after the program's name. The session has the first of the strategies; any other
+/// gives the same bytes.
 pub fn run<S: Source, K: Sink>(
     alloc: Global,
     words: &[String],
