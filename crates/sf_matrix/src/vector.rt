@@ -16,10 +16,12 @@ use std::alloc::Global;
 use std::marker::Model;
 
 /// A coefficient, and where it stands: at a generator, counted from 0, and a monomial.
+///
+/// The monomial is the first field, since a number of 128 bits begins at a multiple of 16 bytes: so a term takes 32.
 #[derive(Clone, Copy, Debug, PartialEq, Eq, Hash)]
 pub struct Term {
-    pub position: u64,
     pub monomial: Mono,
+    pub position: u64,
     pub coefficient: u32,
 }
 
