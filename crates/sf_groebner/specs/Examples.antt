@@ -19,22 +19,22 @@ abbrev pub vector : ℕ → List (Term Place) → Vector
 vector d ts = record { degree = pos d; terms = ts }
 
 -- x^2 and x y + y^2
-abbrev pub first_row : Vector
-first_row = vector 2 (term 1 0 (2 ∷ []) ∷ [])
+abbrev pub first_quadric : Vector
+first_quadric = vector 2 (term 1 0 (2 ∷ []) ∷ [])
 
-abbrev pub second_row : Vector
-second_row = vector 2 (term 1 0 (1 ∷ 1 ∷ []) ∷ term 1 0 (0 ∷ 2 ∷ []) ∷ [])
+abbrev pub second_quadric : Vector
+second_quadric = vector 2 (term 1 0 (1 ∷ 1 ∷ []) ∷ term 1 0 (0 ∷ 2 ∷ []) ∷ [])
 
--- y^3
+-- y^3, the third row of their basis
 abbrev pub third_row : Vector
 third_row = vector 3 (term 1 0 (0 ∷ 3 ∷ []) ∷ [])
 
 -- the ideal of x^2 and x y + y^2, as the span of a column
 abbrev pub quadrics : Matrix
-quadrics = record { ring = plain 101; target = pos 0 ∷ []; rows = first_row ∷ second_row ∷ [] }
+quadrics = record { ring = plain 101; target = pos 0 ∷ []; rows = first_quadric ∷ second_quadric ∷ [] }
 
 abbrev pub quadrics_basis : List Vector
-quadrics_basis = first_row ∷ second_row ∷ third_row ∷ []
+quadrics_basis = first_quadric ∷ second_quadric ∷ third_row ∷ []
 
 -- x y + y^2 times x^2, less x^2 times x y + y^2
 abbrev pub quadrics_syzygy : Vector

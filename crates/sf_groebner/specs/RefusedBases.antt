@@ -4,7 +4,7 @@ use Rattle.std.specs.Prelude.{List, [], ◌∷◌}
 use Rattle.std.specs.List.{AllByRecursion}
 use Rattle.sf_algebra.specs.Rings.{ones}
 use Rattle.sf_algebra.specs.Vectors.{Vector}
-use Rattle.sf_groebner.specs.Examples.{term, vector, first_row, second_row, third_row, quadrics}
+use Rattle.sf_groebner.specs.Examples.{term, vector, first_quadric, second_quadric, third_row, quadrics}
 use Rattle.sf_groebner.specs.ReducedBases.{HasDividedLead, IsApart, IsMonic, IsSorted, IsSpanBasis}
 use Rattle.sf_groebner.specs.Spans.{InSpan}
 
@@ -24,7 +24,7 @@ HasCompleteLeads vs = (v : Vector) → InSpan quadrics v → HasDividedLead vs v
 -- x^2 + x y + y^2 has the lead x y of a later row
 abbrev pub later_lead_in_tail : List Vector
 later_lead_in_tail =
-    vector 2 (term 1 0 (2 ∷ []) ∷ term 1 0 (1 ∷ 1 ∷ []) ∷ term 1 0 (0 ∷ 2 ∷ []) ∷ []) ∷ second_row ∷ third_row ∷ []
+    vector 2 (term 1 0 (2 ∷ []) ∷ term 1 0 (1 ∷ 1 ∷ []) ∷ term 1 0 (0 ∷ 2 ∷ []) ∷ []) ∷ second_quadric ∷ third_row ∷ []
 
 abbrev pub RefusesLaterLeadInTail : Type 0
 RefusesLaterLeadInTail =
@@ -32,7 +32,7 @@ RefusesLaterLeadInTail =
 
 -- y^3 + x^2 z has a multiple of the lead x^2 of an earlier row
 abbrev pub earlier_lead_in_tail : List Vector
-earlier_lead_in_tail = first_row ∷ second_row ∷ vector 3 (term 1 0 (0 ∷ 3 ∷ []) ∷ term 1 0 (2 ∷ 0 ∷ 1 ∷ []) ∷ []) ∷ []
+earlier_lead_in_tail = first_quadric ∷ second_quadric ∷ vector 3 (term 1 0 (0 ∷ 3 ∷ []) ∷ term 1 0 (2 ∷ 0 ∷ 1 ∷ []) ∷ []) ∷ []
 
 abbrev pub RefusesEarlierLeadInTail : Type 0
 RefusesEarlierLeadInTail =
@@ -40,7 +40,7 @@ RefusesEarlierLeadInTail =
 
 -- x y and y^2 aren't in the span
 abbrev pub outside_rows : List Vector
-outside_rows = first_row ∷ vector 2 (term 1 0 (1 ∷ 1 ∷ []) ∷ []) ∷ vector 2 (term 1 0 (0 ∷ 2 ∷ []) ∷ []) ∷ []
+outside_rows = first_quadric ∷ vector 2 (term 1 0 (1 ∷ 1 ∷ []) ∷ []) ∷ vector 2 (term 1 0 (0 ∷ 2 ∷ []) ∷ []) ∷ []
 
 abbrev pub RefusesOutsideRows : Type 0
 RefusesOutsideRows =
@@ -48,7 +48,7 @@ RefusesOutsideRows =
 
 -- a coefficient 2 leads the second row
 abbrev pub doubled_row : List Vector
-doubled_row = first_row ∷ vector 2 (term 2 0 (1 ∷ 1 ∷ []) ∷ term 2 0 (0 ∷ 2 ∷ []) ∷ []) ∷ third_row ∷ []
+doubled_row = first_quadric ∷ vector 2 (term 2 0 (1 ∷ 1 ∷ []) ∷ term 2 0 (0 ∷ 2 ∷ []) ∷ []) ∷ third_row ∷ []
 
 abbrev pub RefusesDoubledRow : Type 0
 RefusesDoubledRow =
@@ -56,7 +56,7 @@ RefusesDoubledRow =
 
 -- a row is 0
 abbrev pub with_zero : List Vector
-with_zero = first_row ∷ second_row ∷ third_row ∷ vector 4 [] ∷ []
+with_zero = first_quadric ∷ second_quadric ∷ third_row ∷ vector 4 [] ∷ []
 
 abbrev pub RefusesZero : Type 0
 RefusesZero =
@@ -64,7 +64,7 @@ RefusesZero =
 
 -- y^3 is wanting
 abbrev pub without_third_row : List Vector
-without_third_row = first_row ∷ second_row ∷ []
+without_third_row = first_quadric ∷ second_quadric ∷ []
 
 abbrev pub RefusesWithoutThirdRow : Type 0
 RefusesWithoutThirdRow =
@@ -72,7 +72,7 @@ RefusesWithoutThirdRow =
 
 -- in one degree the smaller lead comes first
 abbrev pub smaller_lead_first : List Vector
-smaller_lead_first = second_row ∷ first_row ∷ third_row ∷ []
+smaller_lead_first = second_quadric ∷ first_quadric ∷ third_row ∷ []
 
 abbrev pub RefusesSmallerLeadFirst : Type 0
 RefusesSmallerLeadFirst =
@@ -80,7 +80,7 @@ RefusesSmallerLeadFirst =
 
 -- the greater degree comes first
 abbrev pub greater_degree_first : List Vector
-greater_degree_first = third_row ∷ first_row ∷ second_row ∷ []
+greater_degree_first = third_row ∷ first_quadric ∷ second_quadric ∷ []
 
 abbrev pub RefusesGreaterDegreeFirst : Type 0
 RefusesGreaterDegreeFirst =

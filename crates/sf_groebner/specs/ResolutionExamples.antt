@@ -4,7 +4,7 @@ use Rattle.std.specs.Prelude.{[], ◌∷◌, pos}
 use Rattle.sf_algebra.specs.Matrices.{Matrix}
 use Rattle.sf_algebra.specs.Rings.{plain}
 use Rattle.sf_algebra.specs.Vectors.{Vector}
-use Rattle.sf_groebner.specs.Examples.{term, vector, first_row, second_row, third_row, quadrics, quadrics_syzygy}
+use Rattle.sf_groebner.specs.Examples.{term, vector, first_quadric, second_quadric, third_row, quadrics, quadrics_syzygy}
 use Rattle.sf_groebner.specs.MinimalGenerators.{AreMinimal}
 use Rattle.sf_groebner.specs.Presentations.{IsZero}
 use Rattle.sf_groebner.specs.Resolutions.{IsResolution}
@@ -50,4 +50,4 @@ HasQuadricsResolution = IsResolution quadrics (quadrics ∷ quadrics_syzygies �
 
 -- with y^3 the generators aren't minimal
 abbrev pub RefusesThirdRow : Type 0
-RefusesThirdRow = AreMinimal (plain 101) (InSpan quadrics) IsZero (first_row ∷ second_row ∷ third_row ∷ []) → ⊥
+RefusesThirdRow = AreMinimal (plain 101) (InSpan quadrics) IsZero (first_quadric ∷ second_quadric ∷ third_row ∷ []) → ⊥

@@ -16,7 +16,8 @@ use Rattle.sf_algebra.proofs.Terms.Normal.{EachPlace-add, IsDescending-put, resi
 use Rattle.sf_algebra.proofs.Vectors.RowSums.{IsCanonical-row_sum, row_sum-assoc, row_sum-comm, row_sum-nil, row_sum-nil_first}
 use Rattle.std.proofs.Math.Nat.{mod-eq_of_lt}
 use Rattle.std.proofs.lemmas.Cmp.{tied_itself}
-use Rattle.sf_reduce.specs.Buckets.{IsBelow, count_of_terms, sum_of_lists}
+use Rattle.sf_groebner.specs.Divisions.{AreBelow}
+use Rattle.sf_reduce.specs.Buckets.{count_of_terms, sum_of_lists}
 
 -- an item exchanged for one of which the fact holds
 pub AllByRecursion-slice_set : {X : Type 0} (P : X → Type 0) (xs : List X) (i : ℕ) (x : X) → AllByRecursion P xs → P x
@@ -37,11 +38,11 @@ count_of_terms-slice_set [] i b c e = cc
 count_of_terms-slice_set (a ∷ bs) zero b c e = let same : length a ≡ length b = cc in omega arith
 count_of_terms-slice_set (a ∷ bs) (suc i) b c e = omega (arith, count_of_terms-slice_set bs i b c e)
 
-pub IsBelow-sum_of_lists : (p : ℕ) (k : Place) (bs : List (List (Term Place))) → AllByRecursion (IsBelow k) bs
-    → IsBelow k (sum_of_lists p bs)
-IsBelow-sum_of_lists p k [] h = tt
-IsBelow-sum_of_lists p k (b ∷ bs) h =
-    EachPlace-add (λ l. place_cmp ones l k ≡ Less) (place_cmp ones) p b (sum_of_lists p bs) h.0 (IsBelow-sum_of_lists p k bs h.1)
+pub AreBelow-sum_of_lists : (p : ℕ) (k : Place) (bs : List (List (Term Place))) → AllByRecursion (AreBelow ones k) bs
+    → AreBelow ones k (sum_of_lists p bs)
+AreBelow-sum_of_lists p k [] h = tt
+AreBelow-sum_of_lists p k (b ∷ bs) h =
+    EachPlace-add (λ l. place_cmp ones l k ≡ Less) (place_cmp ones) p b (sum_of_lists p bs) h.0 (AreBelow-sum_of_lists p k bs h.1)
 
 pub IsCanonical-nil : (p : ℕ) → IsCanonical (place_cmp ones) p []
 IsCanonical-nil p = record { descending = tt; residues = tt }
@@ -101,7 +102,7 @@ module _ (p : ℕ) (positive : 0 < p) where
 
   -- a first term apart from those below it
   pub row_sum-put : (k : Place) (x : ℕ) (us : List (Term Place)) → x < p → IsCanonical (place_cmp ones) p us
-      → IsBelow k us → put k x us ≡ plus (put k x []) us
+      → AreBelow ones k us → put k x us ≡ plus (put k x []) us
   row_sum-put k zero us below h low = sym (row_sum-nil_first (plain p) positive us h)
   row_sum-put k (suc x) [] below h low =
       sym (row_sum-nil (plain p) positive (put k (suc x) []) (IsCanonical-put k (suc x) below))

@@ -10,33 +10,34 @@ use Rattle.sf_algebra.proofs.Monomials.Orders.{ordering_cases, place_cmp-Equal, 
 use Rattle.std.proofs.lemmas.Cmp.{tied_itself}
 use Rattle.std.specs.Ordering.{ordering_reverse}
 use Rattle.sf_groebner.proofs.Basics.PlaceOrder.{Less-not_Greater, less_not_greater, not_greater_itself, not_greater_less}
-use Rattle.sf_reduce.specs.Buckets.{AreCanonical, GreatestOf, IsBelow, IsUpTo}
+use Rattle.sf_groebner.specs.Divisions.{AreBelow}
+use Rattle.sf_reduce.specs.Buckets.{AreCanonical, GreatestOf, IsUpTo}
 
 pub AreDescending : (p : ℕ) (bs : List (List (Term Place))) → AreCanonical p bs
     → AllByRecursion (IsDescending (place_cmp ones)) bs
 AreDescending p bs h = AllByRecursion-weaken _ _ (λ b k. k.descending) bs h
 
-IsUpTo-IsBelow : (k : Place) (ts : List (Term Place)) → IsBelow k ts → IsUpTo k ts
-IsUpTo-IsBelow k ts h = AllByRecursion-weaken _ _ (λ t less. Less-not_Greater _ less) ts h
+IsUpTo-AreBelow : (k : Place) (ts : List (Term Place)) → AreBelow ones k ts → IsUpTo k ts
+IsUpTo-AreBelow k ts h = AllByRecursion-weaken _ _ (λ t less. Less-not_Greater _ less) ts h
 
 -- by the first of terms that descend
 pub IsUpTo-first : (k : Place) (t : Term Place) (ts : List (Term Place)) → IsDescending (place_cmp ones) (t ∷ ts)
     → place_cmp ones t.at k ≢ Greater → IsUpTo k (t ∷ ts)
 IsUpTo-first k t ts h most =
-    (most, IsUpTo-IsBelow k ts (AllByRecursion-weaken _ (λ (u : Term Place). place_cmp ones u.at k ≡ Less) (λ u less. less_not_greater ones u.at t.at k less most) ts h.0))
+    (most, IsUpTo-AreBelow k ts (AllByRecursion-weaken _ (λ (u : Term Place). place_cmp ones u.at k ≡ Less) (λ u less. less_not_greater ones u.at t.at k less most) ts h.0))
 
 -- where the first term stands below k, all do
-pub IsBelow-first : (k : Place) (t : Term Place) (ts : List (Term Place)) → IsDescending (place_cmp ones) (t ∷ ts)
-    → place_cmp ones t.at k ≢ Greater → place_cmp ones t.at k ≢ Equal → IsBelow k (t ∷ ts)
-IsBelow-first k t ts h most apart =
+pub AreBelow-first : (k : Place) (t : Term Place) (ts : List (Term Place)) → IsDescending (place_cmp ones) (t ∷ ts)
+    → place_cmp ones t.at k ≢ Greater → place_cmp ones t.at k ≢ Equal → AreBelow ones k (t ∷ ts)
+AreBelow-first k t ts h most apart =
     let less : place_cmp ones t.at k ≡ Less = ordering_cases (place_cmp ones t.at k) (λ e. e) (λ e. absurd (apart e)) (λ e. absurd (most e)) in
     (less, AllByRecursion-weaken _ (λ (u : Term Place). place_cmp ones u.at k ≡ Less) (λ u below. (place_cmp_total ones).trans u.at t.at k below less) ts h.0)
 
 -- where it stands at k, those behind it stand below
-pub IsBelow-tail : (k : Place) (t : Term Place) (ts : List (Term Place)) → IsDescending (place_cmp ones) (t ∷ ts)
-    → place_cmp ones t.at k ≡ Equal → IsBelow k ts
-IsBelow-tail k t ts h equal =
-    subst (λ l. IsBelow l ts) (place_cmp-Equal ones t.at k equal) h.0
+pub AreBelow-tail : (k : Place) (t : Term Place) (ts : List (Term Place)) → IsDescending (place_cmp ones) (t ∷ ts)
+    → place_cmp ones t.at k ≡ Equal → AreBelow ones k ts
+AreBelow-tail k t ts h equal =
+    subst (λ l. AreBelow ones l ts) (place_cmp-Equal ones t.at k equal) h.0
 
 IsUpTo-more : (j k : Place) (ts : List (Term Place)) → place_cmp ones j k ≡ Less → IsUpTo j ts → IsUpTo k ts
 IsUpTo-more j k ts less h =
@@ -47,10 +48,10 @@ IsUpTo-none k bs h = AllByRecursion-weaken _ _ (λ b none. subst (IsUpTo k) (sym
 
 -- the first term of one more list does not stand below itself
 first_reached : (bs : List (List (Term Place))) (t : Term Place) (ts : List (Term Place))
-    → AllByRecursion (IsBelow t.at) (bs ++ (t ∷ ts) ∷ []) → ⊥
+    → AllByRecursion (AreBelow ones t.at) (bs ++ (t ∷ ts) ∷ []) → ⊥
 first_reached bs t ts h =
     let own : place_cmp ones t.at t.at ≡ Less =
-    (AllByRecursion-back (IsBelow t.at) bs ((t ∷ ts) ∷ []) h).0.0 in
+    (AllByRecursion-back (AreBelow ones t.at) bs ((t ∷ ts) ∷ []) h).0.0 in
     let equal : place_cmp ones t.at t.at ≡ Equal = tied_itself (place_cmp_total ones) t.at in
     cc
 
@@ -60,7 +61,7 @@ pub GreatestOf-nil : (answer : Option (Term Place)) (bs : List (List (Term Place
 GreatestOf-nil None bs h = AllByRecursion-append (λ b. b ≡ []) bs ([] ∷ []) h (refl, tt)
 GreatestOf-nil (Some t) bs h = record {
   above = AllByRecursion-append (IsUpTo t.at) bs ([] ∷ []) h.above (tt, tt);
-  reached = λ low. h.reached (AllByRecursion-front (IsBelow t.at) bs ([] ∷ []) low);
+  reached = λ low. h.reached (AllByRecursion-front (AreBelow ones t.at) bs ([] ∷ []) low);
 }
 
 module _ (bs : List (List (Term Place))) (t : Term Place) (ts : List (Term Place))
@@ -88,5 +89,5 @@ module _ (bs : List (List (Term Place))) (t : Term Place) (ts : List (Term Place
       → GreatestOf (Some s) (bs ++ (t ∷ ts) ∷ [])
   GreatestOf-kept s most h = record {
     above = AllByRecursion-append (IsUpTo s.at) bs ((t ∷ ts) ∷ []) h.above (IsUpTo-first s.at t ts descending most, tt);
-    reached = λ low. h.reached (AllByRecursion-front (IsBelow s.at) bs ((t ∷ ts) ∷ []) low);
+    reached = λ low. h.reached (AllByRecursion-front (AreBelow ones s.at) bs ((t ∷ ts) ∷ []) low);
   }

@@ -13,14 +13,15 @@ use Rattle.sf_algebra.proofs.Arithmetic.Residues.{sum_mod-below}
 use Rattle.sf_algebra.proofs.Basics.Lists.{AllByRecursion-append, AllByRecursion-weaken}
 use Rattle.sf_algebra.proofs.Vectors.RowSums.{row_sum-assoc, row_sum-nil_first}
 use Rattle.sf_groebner.proofs.Basics.PlaceOrder.{Less-not_Greater}
-use Rattle.sf_reduce.specs.Buckets.{AreCanonical, IsBelow, IsUpTo, count_of_terms, sum_of_lists}
-use Rattle.sf_reduce.proofs.BucketSums.{AllByRecursion-slice_set, IsBelow-sum_of_lists, IsCanonical-sum_of_lists, count_of_terms-slice_set, put-put, row_sum-put, slice_set-same, sum_of_lists-part}
+use Rattle.sf_groebner.specs.Divisions.{AreBelow}
+use Rattle.sf_reduce.specs.Buckets.{AreCanonical, IsUpTo, count_of_terms, sum_of_lists}
+use Rattle.sf_reduce.proofs.BucketSums.{AllByRecursion-slice_set, AreBelow-sum_of_lists, IsCanonical-sum_of_lists, count_of_terms-slice_set, put-put, row_sum-put, slice_set-same, sum_of_lists-part}
 
 -- what has been taken from the first i lists, and what is left
 pub record IsTaking (p : ℕ) (k : Place) (old : List (List (Term Place))) (i c : ℕ) (bs : List (List (Term Place))) : Type 0 where
   pub canonical : AreCanonical p bs
   pub above : AllByRecursion (IsUpTo k) bs
-  pub below : AllByRecursion (IsBelow k) (take i bs)
+  pub below : AllByRecursion (AreBelow ones k) (take i bs)
   pub sum : row_sum (plain p) (put k c []) (sum_of_lists p bs) ≡ sum_of_lists p old
   pub residue : c < p
   pub size : length bs ≡ length old
@@ -50,7 +51,7 @@ module _ (p : ℕ) (positive : 0 < p) (k : Place) (old : List (List (Term Place)
 
   module _ (i c : ℕ) (bs : List (List (Term Place))) (h : IsTaking p k old i c bs) where
     pub IsTaking-next : (b us : List (Term Place)) (x : ℕ) → slice_get bs i ≡ Some b → b ≡ put k x us
-        → x < p → IsCanonical (place_cmp ones) p us → IsBelow k us
+        → x < p → IsCanonical (place_cmp ones) p us → AreBelow ones k us
         → IsTaking p k old (i + 1) (sum_mod p c x) (slice_set bs i us)
     IsTaking-next b us x read taken less canonical low =
         let within : i < length bs = slice_get_within bs i b read in
@@ -61,8 +62,8 @@ module _ (p : ℕ) (positive : 0 < p) (k : Place) (old : List (List (Term Place)
           canonical = AllByRecursion-slice_set _ bs i us h.canonical canonical;
           above = AllByRecursion-slice_set (IsUpTo k) bs i us h.above
               (AllByRecursion-weaken _ _ (λ t l. Less-not_Greater _ l) us low);
-          below = subst (AllByRecursion (IsBelow k)) (sym (take_more_set bs i us within))
-              (AllByRecursion-append (IsBelow k) (take i bs) (us ∷ []) h.below (low, tt));
+          below = subst (AllByRecursion (AreBelow ones k)) (sym (take_more_set bs i us within))
+              (AllByRecursion-append (AreBelow ones k) (take i bs) (us ∷ []) h.below (low, tt));
           sum =
               ap (λ l. row_sum (plain p) l (sum_of_lists p (slice_set bs i us)))
               (sym (put-put p positive k c x h.residue less))
@@ -80,17 +81,17 @@ module _ (p : ℕ) (positive : 0 < p) (k : Place) (old : List (List (Term Place)
         }
 
     module _ (done : length old ≤ i) where
-      low : AllByRecursion (IsBelow k) bs
-      low = subst (AllByRecursion (IsBelow k)) (take_all i bs (omega (arith, h.size, done))) h.below
+      low : AllByRecursion (AreBelow ones k) bs
+      low = subst (AllByRecursion (AreBelow ones k)) (take_all i bs (omega (arith, h.size, done))) h.below
 
       pub IsTaking-sum : sum_of_lists p old ≡ put k c (sum_of_lists p bs)
       IsTaking-sum =
           sym h.sum
-          ∙ sym (row_sum-put p positive k c (sum_of_lists p bs) h.residue (IsCanonical-sum_of_lists p positive bs) (IsBelow-sum_of_lists p k bs low))
+          ∙ sym (row_sum-put p positive k c (sum_of_lists p bs) h.residue (IsCanonical-sum_of_lists p positive bs) (AreBelow-sum_of_lists p k bs low))
 
-      pub IsTaking-fewer : (AllByRecursion (IsBelow k) old → ⊥) → count_of_terms bs < count_of_terms old
+      pub IsTaking-fewer : (AllByRecursion (AreBelow ones k) old → ⊥) → count_of_terms bs < count_of_terms old
       IsTaking-fewer reached =
           let apart : count_of_terms bs ≡ count_of_terms old → ⊥ =
-          λ e. reached (subst (AllByRecursion (IsBelow k)) (h.same e) low) in
+          λ e. reached (subst (AllByRecursion (AreBelow ones k)) (h.same e) low) in
           let less = h.fewer in
           omega (arith, less, apart)

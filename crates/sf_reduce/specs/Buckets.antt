@@ -1,11 +1,12 @@
 -- Sums that stand as several canonical lists of terms, of which the greatest term is taken first. (This project's own.)
 use Rattle.std.specs.Prelude.{◌≡◌, ◌≢◌, ℕ, ◌+◌, List, [], ◌∷◌, ◌++◌, length, Option, MatchOption}
-use Rattle.std.specs.declared.cmp.Ordering.TheVariants.{Less, Greater}
+use Rattle.std.specs.declared.cmp.Ordering.TheVariants.{Greater}
 use Rattle.std.specs.List.{AllByRecursion}
 use Rattle.sf_algebra.specs.Rings.{ones, plain}
 use Rattle.sf_algebra.specs.Terms.{Term, IsCanonical}
 use Rattle.sf_algebra.specs.VectorOperations.{row_sum}
 use Rattle.sf_algebra.specs.Vectors.{Place, place_cmp}
+use Rattle.sf_groebner.specs.Divisions.{AreBelow}
 
 -- the sum of lists of terms
 abbrev pub sum_of_lists : ℕ → List (List (Term Place)) → List (Term Place)
@@ -20,14 +21,10 @@ AreCanonical p bs = AllByRecursion (IsCanonical (place_cmp ones) p) bs
 abbrev pub IsUpTo : Place → List (Term Place) → Type 0
 IsUpTo k ts = AllByRecursion (λ (t : Term Place). place_cmp ones t.at k ≢ Greater) ts
 
--- each term of a list stands below k
-abbrev pub IsBelow : Place → List (Term Place) → Type 0
-IsBelow k ts = AllByRecursion (λ (t : Term Place). place_cmp ones t.at k ≡ Less) ts
-
 -- k is the greatest place at which a term of the lists stands
 pub record IsGreatest (k : Place) (bs : List (List (Term Place))) : Type 0 where
   pub above : AllByRecursion (IsUpTo k) bs
-  pub reached : AllByRecursion (IsBelow k) bs → ⊥
+  pub reached : AllByRecursion (AreBelow ones k) bs → ⊥
 
 -- the answer stands at the greatest place; there is none where there are no terms
 abbrev pub GreatestOf : Option (Term Place) → List (List (Term Place)) → Type 0

@@ -5,7 +5,8 @@ ghost use Rattle.sf_algebra.specs.Sums.{put};
 ghost use Rattle.sf_algebra.specs.Terms.{IsCanonical, IsDescending};
 ghost use Rattle.sf_algebra.specs.VectorOperations.{row_sum};
 ghost use Rattle.sf_algebra.specs.Vectors.{place_cmp};
-ghost use Rattle.sf_reduce.specs.Buckets.{AreCanonical, GreatestOf, IsBelow, IsGreatest, IsGreatestWith, IsUpTo, count_of_terms, sum_of_lists};
+ghost use Rattle.sf_groebner.specs.Divisions.{AreBelow};
+ghost use Rattle.sf_reduce.specs.Buckets.{AreCanonical, GreatestOf, IsGreatest, IsGreatestWith, IsUpTo, count_of_terms, sum_of_lists};
 
 use sf_field::{Modulus, OutOfMemory};
 use sf_matrix::{Term, add_terms};
@@ -93,7 +94,7 @@ impl Bucket {
         ensures canonical { IsCanonical (place_cmp ones) modulus self.new }
         ensures taken { self.old ≡ put place.now.at result self.new }
         ensures residue { result < modulus }
-        ensures below { IsBelow place.now.at self.new }
+        ensures below { AreBelow ones place.now.at self.new }
     {
         modulus.facts();
         let Some(first) = self.first() else {

@@ -81,7 +81,11 @@ fn zero_of_degree(alloc: Global, modulus: Modulus, basis: &Matrix, coefficient: 
     ensures { result ≡ record { modulus = modulus; degree = place_degree ones (degrees_of basis.now.rows) coefficient.now.at; terms = [] } }
 {
     let row = basis.row(coefficient.position as usize);
-    Sum::new(alloc, modulus, raised(row.degree(), coefficient.monomial))
+    Sum::new(
+        alloc,
+        modulus,
+        degree_of_multiple(row.degree(), coefficient.monomial),
+    )
 }
 
 /// The coefficient for row `i` whose multiple of its lead stands at the least common multiple of the leads of rows
@@ -102,8 +106,8 @@ fn pair_coefficient(basis: &Matrix, i: usize, j: usize, coefficient: u32) -> Ter
     }
 }
 
-/// The degree and the monomial's sum of exponents.
-fn raised(degree: i32, a: Mono) -> i32
+/// The degree of a vector's multiple: its own, and the monomial's sum of exponents.
+fn degree_of_multiple(degree: i32, a: Mono) -> i32
     requires { IsDegree (degree +ℤ pos (exponent_sum a)) }
     ensures { result ≡ degree +ℤ pos (exponent_sum a) }
 {

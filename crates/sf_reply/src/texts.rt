@@ -81,14 +81,14 @@ fn basis_text(alloc: Global, basis: &Presented<'_>) -> Result<Vec<u8>, OutOfMemo
     Ok(text)
 }
 
-fn module_text(alloc: Global, module: &Presented<'_>) -> Result<Vec<u8>, OutOfMemory>
-    ensures { IfOk result (λ text. text.items ≡ module_text module.now) }
+fn module_text(alloc: Global, presented: &Presented<'_>) -> Result<Vec<u8>, OutOfMemory>
+    ensures { IfOk result (λ text. text.items ≡ module_text presented.now) }
 {
-    let relations = module.relations;
+    let relations = presented.relations;
     let mut text = Vec::from_slice(alloc, b"degrees ")?;
     print_degrees(&mut text, relations.target().degrees.as_slice())?;
     text.extend_from_slice(b"\nrels ")?;
-    print_matrix(&mut text, module.names, relations)?;
+    print_matrix(&mut text, presented.names, relations)?;
     text.push(b'\n')?;
     Ok(text)
 }

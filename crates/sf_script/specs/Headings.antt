@@ -43,8 +43,8 @@ abbrev pub DEFAULT_LIMIT : ℕ
 DEFAULT_LIMIT = 40
 
 -- the headings once the ring is given
-abbrev pub entered : ℕ → List (List ℕ) → Heads
-entered modulus names = Within (record {
+abbrev pub ring_entered : ℕ → List (List ℕ) → Heads
+ring_entered modulus names = Within (record {
   ring = record { modulus = modulus; names = names };
   limit = DEFAULT_LIMIT;
   limited = false;

@@ -24,7 +24,7 @@ use Rattle.sf_session.specs.Replies.{Writes, Refused, TooLarge, Carried, Answere
 use Rattle.sf_session.specs.State.{State, IsListed, IsModuleIn, noted_state}
 use Rattle.sf_session.proofs.OneLook.{in_span_or_not, look_exists, look_unique}
 use Rattle.sf_session.proofs.Placed.{given, over_field}
-use Rattle.sf_session.proofs.Sound.{AreSound-defined, AreSound-entered, AreSound-limited, AreSound-noted, AreSound-opened, AreSound-setting, IsModuleIn-named, IsSound}
+use Rattle.sf_session.proofs.Sound.{AreSound-defined, AreSound-ring_entered, AreSound-limited, AreSound-noted, AreSound-opened, AreSound-setting, IsModuleIn-named, IsSound}
 
 -- a relation between a reply and a state that exactly one pair meets, whose state is sound
 pub record IsOne (P : List ℕ → State → Type 0) : Type 0 where
@@ -137,7 +137,7 @@ IsOne-Carried (Spectral version) old sound =
     (refused Heading old sound)
 IsOne-Carried (Ring modulus names) old sound =
     IsOne-MatchBool (enters old.heads modulus names)
-    (λ e. IsOne-Writes _ _ (AreSound-entered old.heads old.modules modulus names e sound))
+    (λ e. IsOne-Writes _ _ (AreSound-ring_entered old.heads old.modules modulus names e sound))
     (refused Heading old sound)
 IsOne-Carried (Limit limit) old sound =
     IsOne-MatchResult (limited old.heads limit)

@@ -7,7 +7,7 @@ use Rattle.sf_algebra.specs.Matrices.{Matrix}
 use Rattle.sf_algebra.proofs.Basics.Lists.{AllByRecursion-append}
 use Rattle.sf_field.specs.Moduli.{is_modulus}
 use Rattle.sf_text.specs.Raw.{RawTerm}
-use Rattle.sf_script.specs.Headings.{are_distinct, entered, enters, is_limit, limited, noted, opens, ring_of, setting_of}
+use Rattle.sf_script.specs.Headings.{are_distinct, enters, is_limit, limited, noted, opens, ring_entered, ring_of, setting_of}
 use Rattle.sf_script.specs.Refusals.{definition, module_named}
 use Rattle.sf_script.specs.declared.heads.Heads.TheVariants.{Unopened, Opened, Within}
 use Rattle.sf_script.specs.declared.heads.Heads.{Heads}
@@ -36,13 +36,13 @@ AreSound-opened Unopened modules version e h = h
 AreSound-opened Opened modules version e h = cc
 AreSound-opened (Within setting) modules version e h = cc
 
-pub AreSound-entered : (heads : Heads) (modules : List (List ℕ × Matrix)) (modulus : ℕ) (names : List (List ℕ))
-    → enters heads modulus names ≡ true → AreSound heads modules → AreSound (entered modulus names) modules
-AreSound-entered Unopened modules modulus names e h = cc
-AreSound-entered Opened modules modulus names e h =
+pub AreSound-ring_entered : (heads : Heads) (modules : List (List ℕ × Matrix)) (modulus : ℕ) (names : List (List ℕ))
+    → enters heads modulus names ≡ true → AreSound heads modules → AreSound (ring_entered modulus names) modules
+AreSound-ring_entered Unopened modules modulus names e h = cc
+AreSound-ring_entered Opened modules modulus names e h =
     let listed = and_parts (is_modulus modulus) (nat_le (length names) 6 && are_distinct names) e in
-    (listed.0, subst (HasModulesIn (entered modulus names)) (sym h.1) tt)
-AreSound-entered (Within setting) modules modulus names e h = cc
+    (listed.0, subst (HasModulesIn (ring_entered modulus names)) (sym h.1) tt)
+AreSound-ring_entered (Within setting) modules modulus names e h = cc
 
 pub AreSound-limited : (heads : Heads) (modules : List (List ℕ × Matrix)) (limit : ℤ) (after : Heads)
     → limited heads limit ≡ Ok after → AreSound heads modules → AreSound after modules

@@ -4,7 +4,7 @@ use Rattle.std.specs.Bool.{MatchBool}
 use Rattle.sf_algebra.specs.Matrices.{Matrix}
 use Rattle.sf_groebner.specs.Spans.{InSpan}
 use Rattle.sf_script.specs.Grammar.{line_of}
-use Rattle.sf_script.specs.Headings.{ring_of, setting_of, opens, enters, entered, limited}
+use Rattle.sf_script.specs.Headings.{ring_of, setting_of, opens, enters, ring_entered, limited}
 use Rattle.sf_script.specs.Refusals.{module_named, definition, vector_given}
 use Rattle.sf_script.specs.declared.command.Command.TheVariants.{Spectral, Ring, Limit, Module, Show, Basis, Member, Later}
 use Rattle.sf_script.specs.declared.command.Command.{Command}
@@ -46,7 +46,7 @@ Carried (Spectral version) old text new =
     (Refused Heading old text new)
 Carried (Ring modulus names) old text new =
     MatchBool (enters old.heads modulus names)
-    (Accepted (record old { heads = entered modulus names }) text new)
+    (Accepted (record old { heads = ring_entered modulus names }) text new)
     (Refused Heading old text new)
 -- a limit that is refused isn't noted
 Carried (Limit limit) old text new =

@@ -56,14 +56,14 @@ fn push_pair(
     let other = lead_of(rows, i);
     if other.position == lead.position {
         let lcm = other.monomial.lcm(lead.monomial);
-        let degree = raised(degree, lead.monomial, lcm);
+        let degree = degree_by_lead(degree, lead.monomial, lcm);
         pairs.push(degree, (i as u32, rows.rows() as u32))?;
     }
     Ok(())
 }
 
 /// The degree of a multiple, by that of a vector with this lead.
-fn raised(degree: i32, lead: Mono, multiple: Mono) -> i64
+fn degree_by_lead(degree: i32, lead: Mono, multiple: Mono) -> i64
     ensures { result ≡ (degree -ℤ pos (exponent_sum lead)) +ℤ pos (exponent_sum multiple) }
 {
     i64::from(degree) - i64::from(lead.sum()) + i64::from(multiple.sum())

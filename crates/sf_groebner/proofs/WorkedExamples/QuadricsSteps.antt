@@ -2,7 +2,7 @@
 use Rattle.std.proofs.Common.{◌≡◌, [], ◌∷◌, inl, inr, refl, arith, pos}
 use Rattle.sf_algebra.specs.Rings.{plain}
 use Rattle.sf_algebra.specs.Sums.{add, normal, insert}
-use Rattle.sf_groebner.specs.Examples.{vector, first_row, second_row, third_row, quadrics, quadrics_basis, quadrics_syzygy}
+use Rattle.sf_groebner.specs.Examples.{vector, first_quadric, second_quadric, third_row, quadrics, quadrics_basis, quadrics_syzygy}
 use Rattle.sf_groebner.specs.MinimalGenerators.{AreMinimal, IsInSum}
 use Rattle.sf_groebner.specs.Presentations.{IsZero}
 use Rattle.sf_groebner.specs.ResolutionExamples.{quadrics_syzygies, HasQuadricsResolution, RefusesThirdRow}
@@ -14,14 +14,14 @@ use Rattle.sf_groebner.proofs.Uniqueness.UniqueBases.{unique_reduced}
 use Rattle.sf_groebner.proofs.WorkedExamples.QuadricsGraph.{quadrics-matrix}
 use Rattle.sf_groebner.proofs.WorkedExamples.QuadricsParts.{quadrics-span, quadrics-syzygies}
 
-first_needed : IsInSum (plain 101) [] IsZero first_row → ⊥
+first_needed : IsInSum (plain 101) [] IsZero first_quadric → ⊥
 first_needed =
-    not_in_sum (plain 101) (omega arith) (pos 0 ∷ []) [] tt (λ i j h k e. absurd (omega (arith, k))) first_row (λ e. cc)
+    not_in_sum (plain 101) (omega arith) (pos 0 ∷ []) [] tt (λ i j h k e. absurd (omega (arith, k))) first_quadric (λ e. cc)
 
-second_needed : IsInSum (plain 101) (first_row ∷ []) IsZero second_row → ⊥
+second_needed : IsInSum (plain 101) (first_quadric ∷ []) IsZero second_quadric → ⊥
 second_needed =
-    not_in_sum (plain 101) (omega arith) (pos 0 ∷ []) (first_row ∷ []) (search arith)
-    (λ i j h k e. absurd (omega (arith, h, k))) second_row (λ e. cc)
+    not_in_sum (plain 101) (omega arith) (pos 0 ∷ []) (first_quadric ∷ []) (search arith)
+    (λ i j h k e. absurd (omega (arith, h, k))) second_quadric (λ e. cc)
 
 -- y^3 is in the span of the rows before it
 third_left_out : IsInSum quadrics.ring quadrics.rows IsZero third_row
@@ -41,11 +41,11 @@ syzygy_needed =
     not_in_sum (plain 101) (omega arith) (pos 2 ∷ pos 2 ∷ []) [] tt
     (λ i j h k e. absurd (omega (arith, k))) quadrics_syzygy (λ e. cc)
 
-quadrics_minimal : AreMinimal (plain 101) (InSpan quadrics) IsZero (first_row ∷ second_row ∷ [])
+quadrics_minimal : AreMinimal (plain 101) (InSpan quadrics) IsZero (first_quadric ∷ second_quadric ∷ [])
 quadrics_minimal = record {
   basis = quadrics_basis;
   reduced = quadrics-span;
-  kept = inr (first_needed, (second_row ∷ [], refl, inr (second_needed, ([], refl, inl (third_left_out, refl)))));
+  kept = inr (first_needed, (second_quadric ∷ [], refl, inr (second_needed, ([], refl, inl (third_left_out, refl)))));
 }
 
 syzygies_minimal : AreMinimal (plain 101) (IsSyzygy quadrics) IsZero (quadrics_syzygy ∷ [])
@@ -70,7 +70,7 @@ quadrics-resolution = (
 
 pub refuses_third_row : RefusesThirdRow
 refuses_third_row h =
-    let same : first_row ∷ second_row ∷ third_row ∷ [] ≡ first_row ∷ second_row ∷ [] =
+    let same : first_quadric ∷ second_quadric ∷ third_row ∷ [] ≡ first_quadric ∷ second_quadric ∷ [] =
     unique_minimal (plain 101) (pos 0 ∷ []) (InSpan quadrics) IsZero
-    (unique_reduced (plain 101) (omega arith) (pos 0 ∷ []) (InSpan quadrics) (span_module quadrics (omega arith) quadrics-matrix)) (first_row ∷ second_row ∷ third_row ∷ []) (first_row ∷ second_row ∷ []) h quadrics_minimal in
+    (unique_reduced (plain 101) (omega arith) (pos 0 ∷ []) (InSpan quadrics) (span_module quadrics (omega arith) quadrics-matrix)) (first_quadric ∷ second_quadric ∷ third_row ∷ []) (first_quadric ∷ second_quadric ∷ []) h quadrics_minimal in
     cc

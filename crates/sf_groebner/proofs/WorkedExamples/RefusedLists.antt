@@ -6,7 +6,7 @@ use Rattle.sf_algebra.specs.Residues.{sum_mod, product_mod}
 use Rattle.sf_algebra.specs.Sums.{normal, insert}
 use Rattle.sf_algebra.specs.Terms.{Term}
 use Rattle.sf_algebra.specs.Vectors.{Place, Vector}
-use Rattle.sf_groebner.specs.Examples.{term, vector, first_row, second_row, third_row, quadrics, quadrics_basis}
+use Rattle.sf_groebner.specs.Examples.{term, vector, first_quadric, second_quadric, third_row, quadrics, quadrics_basis}
 use Rattle.sf_groebner.specs.Leads.{place_divides}
 use Rattle.sf_groebner.specs.ReducedBases.{HasDividedLead, is_divided, lead_divides}
 use Rattle.sf_groebner.specs.RefusedBases.{HasCompleteLeads, later_lead_in_tail, earlier_lead_in_tail, outside_rows, doubled_row, with_zero, smaller_lead_first, greater_degree_first, RefusesLaterLeadInTail, RefusesEarlierLeadInTail, RefusesOutsideRows, RefusesDoubledRow, RefusesZero, RefusesWithoutThirdRow, RefusesSmallerLeadFirst, RefusesGreaterDegreeFirst}
@@ -18,11 +18,11 @@ use Rattle.sf_groebner.proofs.WorkedExamples.QuadricsParts.{quadrics-span}
 in_span : (c : Vector) → IsCoefficients quadrics c → InSpan quadrics (combined quadrics c)
 in_span c h = record { coefficients = c; homogeneous = h; value = refl }
 
-first : InSpan quadrics first_row
+first : InSpan quadrics first_quadric
 unfolding combination combination_terms normal insert sum_mod product_mod
 first = record { coefficients = vector 2 (term 1 0 [] ∷ []); homogeneous = search (arith, ints); value = refl }
 
-second : InSpan quadrics second_row
+second : InSpan quadrics second_quadric
 unfolding combination combination_terms normal insert sum_mod product_mod
 second = record { coefficients = vector 2 (term 1 1 [] ∷ []); homogeneous = search (arith, ints); value = refl }
 
@@ -84,7 +84,7 @@ refuses_outside_rows = (
   λ h. not_inside h.inside.1.1.0,
   (refl, (refl, (refl, tt))),
   complete_from outside_rows
-      (λ k h. or_last (lead_divides first_row.terms k) (lead_divides second_row.terms k) _ _ (square_divides k) h),
+      (λ k h. or_last (lead_divides first_quadric.terms k) (lead_divides second_quadric.terms k) _ _ (square_divides k) h),
   search arith,
   ((refl, (refl, tt)), ((refl, tt), (tt, tt))),
 )
@@ -136,7 +136,7 @@ refuses_smaller_lead_first = (
   (second, (first, (third, tt))),
   (refl, (refl, (refl, tt))),
   complete_from smaller_lead_first
-      (λ k h. first_two_exchanged (lead_divides first_row.terms k) (lead_divides second_row.terms k) (lead_divides third_row.terms k) h),
+      (λ k h. first_two_exchanged (lead_divides first_quadric.terms k) (lead_divides second_quadric.terms k) (lead_divides third_row.terms k) h),
   search arith,
 )
 
@@ -146,6 +146,6 @@ refuses_greater_degree_first = (
   (third, (first, (second, tt))),
   (refl, (refl, (refl, tt))),
   complete_from greater_degree_first
-      (λ k h. last_first (lead_divides first_row.terms k) (lead_divides second_row.terms k) (lead_divides third_row.terms k) h),
+      (λ k h. last_first (lead_divides first_quadric.terms k) (lead_divides second_quadric.terms k) (lead_divides third_row.terms k) h),
   search arith,
 )

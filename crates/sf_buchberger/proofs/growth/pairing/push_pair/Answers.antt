@@ -17,9 +17,9 @@ returns-in_ok-push c =
     let second = ap (λ (t : Term Place). t.at) c.lead.view_is in
     let same = sym (ap (λ (k : Place). k.position) first) ∙ c.if-other-lead.true ∙ ap (λ (k : Place). k.position) second in
     let multiple = c.lcm-lcm.ensures.lcm ∙ (λ k. lcm (first k).monomial (second k).monomial) in
-    let degree : to_z w64 (of_z w64 c.raised-degree.result) ≡ c.raised-degree.result = search rules in
+    let degree : to_z w64 (of_z w64 c.degree_by_lead-degree.result) ≡ c.degree_by_lead-degree.result = search rules in
     let own : to_z w32 (of_z w32 c.args.degree) ≡ c.args.degree = search rules in
-    let there = degree ∙ degree-lcm_with target rows lead i c.args.degree c.raised-degree.result c.lcm-lcm.result c.lead.inside.monomial multiple (ap (λ (k : Place). k.monomial) second) c.requires.degree (rw own at c.raised-degree.ensures) in
+    let there = degree ∙ degree-lcm_with target rows lead i c.args.degree c.degree_by_lead-degree.result c.lcm-lcm.result c.lead.inside.monomial multiple (ap (λ (k : Place). k.monomial) second) c.requires.degree (rw own at c.degree_by_lead-degree.ensures) in
     record {
       ok = c.in_ok-push.ensures.ok
           ∙ (λ k. c.args.pairs.now ++ pair_of (there k) i (c.rows.ensures.len k) ∷ [])
