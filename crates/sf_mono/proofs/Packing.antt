@@ -124,8 +124,9 @@ pub StandsFor-quotient : (m n : ℕ) (a b : Monomial) → StandsFor m a → Stan
 StandsFor-quotient m n a b s t d =
     let back = product-quotient a b d in
     let h : HasDigits (quotient a b) = less a b (digits_of s) in
+    let sums = number-product b (quotient a b) (digits_of t) h (subst HasDigits (sym back) (digits_of s)) in
     StandsFor-number _ _ h
-    (without _ _ _ _ _ (number-product b (quotient a b) (digits_of t) h (subst HasDigits (sym back) (digits_of s))) (ap monomial_number back ∙ number_of s) (number_of t))
+    (without _ _ _ _ _ sums (ap monomial_number back ∙ number_of s) (number_of t))
   where
     less : (a b : Monomial) → HasDigits a → HasDigits (quotient a b)
     less a b h = omega arith
