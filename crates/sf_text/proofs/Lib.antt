@@ -8,3 +8,4 @@ pub mod Signs
 pub mod SmallTerms
 pub mod PlacedTerms
 pub mod PlacedRows
+pub mod ReadingBack

@@ -29,7 +29,7 @@ signed_parts-sign b bs negative e = by (b == plus) (b == minus) refl refl e
     by false false x y some = cc
 
 -- no other byte ends it
-signed_parts-other : (b : ℕ) (bs : List ℕ) (negative : Bool) → is_sign b ≡ false
+pub signed_parts-other : (b : ℕ) (bs : List ℕ) (negative : Bool) → is_sign b ≡ false
     → signed_parts negative (b ∷ bs) ≡ onto_first_text b (signed_parts negative bs)
 signed_parts-other b bs negative e = by (b == plus) (b == minus) e
   where

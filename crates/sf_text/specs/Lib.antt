@@ -5,3 +5,4 @@ pub mod Raw
 pub mod MatrixText
 pub mod Placed
 pub mod Unknowns
+pub mod ReadingBack

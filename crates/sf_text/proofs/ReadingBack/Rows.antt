@@ -1,0 +1,133 @@
+-- The rows of a matrix, as they are printed, read back.
+use Rattle.std.proofs.Common.{◌≡◌, ◌⊎◌, inl, inr, ℕ, zero, suc, ◌+◌, ◌<◌, ◌≤◌, List, [], ◌∷◌, ◌++◌, length, take, map, ◌==◌, nat_le, Bool, true, false, cond, Some, None, refl, ap, ◌∙◌, length-append, slice_index, ◌-◌, arith}
+use Rattle.std.specs.List.{AllByRecursion, range_with_len, cons_option, join_with_byte}
+use Rattle.std.proofs.lemmas.Bool.Decides.{nat_tests}
+use Rattle.std.proofs.Math.Seq.{take-append_seam, get_or-append_seam}
+use Rattle.sf_algebra.specs.Monomials.{Monomial}
+use Rattle.sf_algebra.specs.Printing.{polynomial_text, row_text, rows_text, comma, semicolon}
+use Rattle.sf_algebra.specs.Terms.{Term}
+use Rattle.sf_algebra.specs.Vectors.{Place, Vector, entry}
+use Rattle.sf_algebra.proofs.Basics.Lists.{AllByRecursion-weaken}
+use Rattle.sf_algebra.proofs.Vectors.Entries.{without_position}
+use Rattle.sf_text.specs.MatrixText.{all_of, entry_of, row_of, rows_of, is_bracketed, inner, matrix_written}
+use Rattle.sf_text.specs.Raw.{RawTerm}
+use Rattle.sf_text.specs.Words.{parts}
+use Rattle.sf_text.proofs.ReadingBack.Joined.{joined-each, Lacks, parts-joined}
+use Rattle.sf_text.proofs.ReadingBack.Factors.{AreNames}
+use Rattle.sf_text.proofs.ReadingBack.Terms.{IsEntryByte, IsWritableTerm, raw_entry, polynomial_text-each, entry_of-polynomial, all_of-map}
+
+-- the terms of a row that the grammar can write
+abbrev pub HasWritableTerms : List (List ℕ) → List (Term Place) → Type 0
+HasWritableTerms names ts = AllByRecursion (λ t. IsWritableTerm names (without_position t)) ts
+
+-- a fact of each term of a row, of those of an entry
+pub entry-each : (P : Term Monomial → Type 0) (i : ℕ) (ts : List (Term Place))
+    → AllByRecursion (λ t. P (without_position t)) ts → AllByRecursion P (entry i ts)
+entry-each P i [] h = tt
+entry-each P i (t ∷ ts) h = by (t.at.position == i) (entry-each P i ts h.1)
+  where
+    by : (here : Bool) → AllByRecursion P (entry i ts)
+        → AllByRecursion P (cons_option (cond here (Some (without_position t)) None) (entry i ts))
+    by true rest = (h.0, rest)
+    by false rest = rest
+
+-- a fact of each element
+each : {X : Type 0} (P : X → Type 0) → ((x : X) → P x) → (xs : List X) → AllByRecursion P xs
+each P h [] = tt
+each P h (x ∷ xs) = (h x, each P h xs)
+
+each-map : {X Y : Type 0} (P : Y → Type 0) (f : X → Y) (xs : List X) → AllByRecursion (λ x. P (f x)) xs
+    → AllByRecursion P (map f xs)
+each-map P f [] h = tt
+each-map P f (x ∷ xs) h = (h.0, each-map P f xs h.1)
+
+-- what is read of so many entries of a row, from a column on
+abbrev pub raw_entries : List (List ℕ) → ℕ → ℕ → List (Term Place) → List (List RawTerm)
+raw_entries names column n ts = map (λ i. raw_entry names (entry i ts)) (range_with_len column n)
+
+abbrev pub raw_row : List (List ℕ) → ℕ → Vector → List (List RawTerm)
+raw_row names columns v = raw_entries names 0 columns v.terms
+
+-- a byte of a row
+abbrev IsRowByte : ℕ → Type 0
+IsRowByte b = IsEntryByte b ⊎ (b ≡ comma)
+
+module _ (names : List (List ℕ)) (few : length names ≤ 6) (named : AreNames names) (columns : ℕ) where
+  module _ (ts : List (Term Place)) (h : HasWritableTerms names ts) where
+    entries-each : (is : List ℕ)
+        → AllByRecursion (AllByRecursion IsEntryByte) (map (λ i. polynomial_text names (entry i ts)) is)
+    entries-each is =
+        each-map (AllByRecursion IsEntryByte) (λ i. polynomial_text names (entry i ts)) is
+        (each _ (λ i. polynomial_text-each names few named (entry i ts) (entry-each (IsWritableTerm names) i ts h)) is)
+
+    row_text-each : AllByRecursion IsRowByte (row_text names columns ts)
+    row_text-each =
+        joined-each IsRowByte comma (inr refl) (map (λ i. polynomial_text names (entry i ts)) (range_with_len 0 columns))
+        (AllByRecursion-weaken _ _ (λ text. AllByRecursion-weaken _ _ (λ b k. inl k) text) _ (entries-each (range_with_len 0 columns)))
+
+    entries-lack_comma : (is : List ℕ)
+        → AllByRecursion (Lacks comma) (map (λ i. polynomial_text names (entry i ts)) is)
+    entries-lack_comma is =
+        AllByRecursion-weaken _ _ (λ text. AllByRecursion-weaken _ _ (λ b k not. omega arith) text) _ (entries-each is)
+
+    row_of-text : 0 < columns → row_of (row_text names columns ts) ≡ Some (raw_entries names 0 columns ts)
+    row_of-text some = by columns some
+      where
+        by : (n : ℕ) → 0 < n → row_of (row_text names n ts) ≡ Some (raw_entries names 0 n ts)
+        by zero some = absurd (omega arith)
+        by (suc n) some =
+            ap (all_of entry_of)
+            (parts-joined comma (polynomial_text names (entry 0 ts)) (map (λ i. polynomial_text names (entry i ts)) (range_with_len 1 n))
+            (entries-lack_comma (range_with_len 0 (suc n))))
+            ∙ all_of-map entry_of (λ i. polynomial_text names (entry i ts)) (λ i. raw_entry names (entry i ts))
+            (range_with_len 0 (suc n))
+            (each _ (λ i. entry_of-polynomial names few named (entry i ts) (entry-each (IsWritableTerm names) i ts h)) (range_with_len 0 (suc n)))
+
+  rows-each : (rows : List Vector) → AllByRecursion (λ (v : Vector). HasWritableTerms names v.terms) rows
+      → AllByRecursion (Lacks semicolon) (map (λ (v : Vector). row_text names columns v.terms) rows)
+  rows-each [] h = tt
+  rows-each (v ∷ vs) h =
+      (AllByRecursion-weaken _ _ (λ b k is. omega arith) (row_text names columns v.terms) (row_text-each v.terms h.0), rows-each vs h.1)
+
+  rows-read : 0 < columns → (rows : List Vector) → AllByRecursion (λ (v : Vector). HasWritableTerms names v.terms) rows
+      → all_of row_of (map (λ (v : Vector). row_text names columns v.terms) rows) ≡ Some (map (raw_row names columns) rows)
+  rows-read some [] h = refl
+  rows-read some (v ∷ vs) h = rw (row_of-text v.terms h.0 some, rows-read some vs h.1)
+
+-- an empty text is no row
+rows_of-filled : (text : List ℕ) (rows : List (List (List RawTerm))) → all_of row_of (parts semicolon text) ≡ Some rows
+    → rows_of text ≡ Some rows
+rows_of-filled [] rows e = cc
+rows_of-filled (b ∷ bs) rows e = e
+
+rows_of-joined : (texts : List (List ℕ)) (rows : List (List (List RawTerm))) → AllByRecursion (Lacks semicolon) texts
+    → all_of row_of texts ≡ Some rows → rows_of (join_with_byte semicolon texts) ≡ Some rows
+rows_of-joined [] rows h e = e
+rows_of-joined (x ∷ xs) rows h e =
+    rows_of-filled (join_with_byte semicolon (x ∷ xs)) rows (ap (all_of row_of) (parts-joined semicolon x xs h) ∙ e)
+
+matrix_written-inner : (text between : List ℕ) (rows : List (List (List RawTerm))) → is_bracketed text ≡ true
+    → inner text ≡ between → rows_of between ≡ Some rows → matrix_written text ≡ Some (record { rows = rows })
+matrix_written-inner text between rows brackets is e = rw (brackets, is, e)
+
+-- a text in brackets
+matrix_written-brackets : (text : List ℕ) (rows : List (List (List RawTerm))) → rows_of text ≡ Some rows
+    → matrix_written (91 ∷ text ++ 93 ∷ []) ≡ Some (record { rows = rows })
+matrix_written-brackets text rows e =
+    let size : length (text ++ 93 ∷ []) ≡ length text + 1 = length-append text (93 ∷ []) in
+    let front : length (91 ∷ text ++ 93 ∷ []) - 2 ≡ length text = omega arith in
+    let end : length (91 ∷ text ++ 93 ∷ []) - 1 ≡ suc (length text) = omega arith in
+    let two : nat_le 2 (length (91 ∷ text ++ 93 ∷ [])) ≡ true = grind (arith, nat_tests) in
+    let closing : slice_index (91 ∷ text ++ 93 ∷ []) (length (91 ∷ text ++ 93 ∷ []) - 1) ≡ 93 =
+    ap (slice_index (91 ∷ text ++ 93 ∷ [])) end ∙ get_or-append_seam text 93 [] 0 in
+    matrix_written-inner (91 ∷ text ++ 93 ∷ []) text rows (rw (two, closing))
+    (ap (λ n. take n (text ++ 93 ∷ [])) front ∙ take-append_seam text (93 ∷ [])) e
+
+pub matrix_written-rows : (names : List (List ℕ)) → length names ≤ 6 → AreNames names → (columns : ℕ) → 0 < columns
+    → (rows : List Vector) → AllByRecursion (λ (v : Vector). HasWritableTerms names v.terms) rows
+    → matrix_written (rows_text names columns rows) ≡ Some (record { rows = map (raw_row names columns) rows })
+matrix_written-rows names few named zero some rows h = absurd (omega arith)
+matrix_written-rows names few named (suc n) some rows h =
+    matrix_written-brackets (join_with_byte semicolon (map (λ (v : Vector). row_text names (suc n) v.terms) rows))
+    (map (raw_row names (suc n)) rows)
+    (rows_of-joined _ _ (rows-each names few named (suc n) rows h) (rows-read names few named (suc n) some rows h))
