@@ -1,5 +1,6 @@
 -- A printed matrix reads back as itself: from the bytes of its text up to the rows that it means.
 pub mod Joined
+pub mod OneWord
 pub mod Numbers
 pub mod Factors
 pub mod Terms
@@ -8,3 +9,4 @@ pub mod Exponents
 pub mod Columns
 pub mod Shapes
 pub mod Matrices
+pub mod Degrees

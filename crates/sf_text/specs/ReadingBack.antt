@@ -1,18 +1,20 @@
--- A printed matrix reads back as itself: what is between its brackets, and those. The degrees of rows are printed before the
--- brackets, so a row that is 0 is read with the degree 0. (The grammar and the way of printing are this project's own.)
-use Rattle.std.specs.Prelude.{◌≡◌, ℕ, ◌<◌, ◌≤◌, ◌^◌, true, Some, None, List, [], length, map, drop, ℤ}
+-- A printed matrix reads back as itself: the text of its rows, in brackets, and the degrees before it. The degree of a row
+-- stands among these alone, so a row that is 0 is read from the brackets with the degree 0. (The grammar and the way of
+-- printing are this project's own.)
+use Rattle.std.specs.Prelude.{◌≡◌, ℕ, ◌<◌, ◌≤◌, ◌^◌, true, Some, None, List, [], ◌∷◌, length, map, drop, ℤ}
+use Rattle.std.specs.Fmt.{signed_decimal}
 use Rattle.std.specs.List.{AllByRecursion, IsDistinct}
 use Rattle.std.specs.Str.{bytes_eq}
 use Rattle.sf_algebra.specs.Matrices.{Matrix, IsMatrix}
 use Rattle.sf_algebra.specs.Monomials.{Monomial, VARIABLES, exponents}
-use Rattle.sf_algebra.specs.Printing.{rows_text}
+use Rattle.sf_algebra.specs.Printing.{comma, degrees_text, rows_text}
 use Rattle.sf_algebra.specs.Rings.{ones, plain}
 use Rattle.sf_algebra.specs.Terms.{Term}
 use Rattle.sf_algebra.specs.Vectors.{Place, Vector, IsVector, row_degree}
-use Rattle.sf_text.specs.MatrixText.{matrix_written}
-use Rattle.sf_text.specs.Placed.{relations_of, has_shape, first_fault}
+use Rattle.sf_text.specs.MatrixText.{inner, matrix_written}
+use Rattle.sf_text.specs.Placed.{relations_of, has_shape, first_fault, is_written_degree}
 use Rattle.sf_text.specs.Unknowns.{first_unknown}
-use Rattle.sf_text.specs.Words.{is_name}
+use Rattle.sf_text.specs.Words.{script_lines, words, parts, is_name, is_integer, integer_value}
 use Rattle.sf_text.specs.declared.raw.RawMatrix.{RawMatrix}
 use Rattle.sf_text.specs.declared.ring.Ring.{Ring}
 
@@ -47,9 +49,16 @@ without_degree degrees v = record { degree = row_degree ones degrees v.terms; te
 abbrev pub without_row_degrees : Matrix → Matrix
 without_row_degrees m = record { ring = m.ring; target = m.target; rows = map (without_degree m.target) m.rows }
 
--- the text of the rows is written in the grammar, nothing in it is refused over the target of m, and it means this matrix
+-- a text of one line, and of one word
+pub record IsOneWord (text : List ℕ) : Type 0 where
+  pub line : script_lines text ≡ text ∷ []
+  pub word : words text ≡ text ∷ []
+
+-- the text of the rows is a word that the grammar has, nothing in it is refused over the target of m, and it means this
+-- matrix
 pub record IsReadAs (ring : Ring) (m read : Matrix) : Type 0 where
   pub raw : RawMatrix
+  pub one : IsOneWord (rows_text ring.names (length m.target) m.rows)
   pub written : matrix_written (rows_text ring.names (length m.target) m.rows) ≡ Some raw
   pub known : first_unknown ring.names raw.rows ≡ None
   pub shaped : has_shape (length m.target) raw.rows ≡ true
@@ -70,3 +79,13 @@ ReadsBackWithoutRows = (ring : Ring) (m : Matrix) → IsWritable ring m → m.ta
 abbrev pub HasReadDegree : Type 0
 HasReadDegree = (p : ℕ) (degrees : List ℤ) (v : Vector) → IsVector (plain p) degrees v → 0 < length v.terms
     → without_degree degrees v ≡ v
+
+-- a degree that is printed is an integer of the grammar, which means it
+pub record IsReadDegree (d : ℤ) : Type 0 where
+  pub integer : is_integer (signed_decimal d) ≡ true
+  pub value : integer_value (signed_decimal d) ≡ d
+
+-- between their brackets the degrees of rows or columns stand as integers, one after another
+abbrev pub DegreesReadBack : Type 0
+DegreesReadBack = (degrees : List ℤ) → 0 < length degrees → AllByRecursion (λ d. is_written_degree d ≡ true) degrees
+    → (parts comma (inner (degrees_text degrees)) ≡ map signed_decimal degrees) × AllByRecursion IsReadDegree degrees

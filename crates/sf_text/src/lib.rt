@@ -10,7 +10,7 @@ mod ring;
 mod tokens;
 mod words;
 
-pub use laws::printed_matrices_read_back;
+pub use laws::{printed_degrees_read_back, printed_matrices_read_back};
 pub use matrix_text::read_matrix;
 pub use placing::{first_row, first_unknown, has_shape, is_single_row, place_row, place_rows};
 pub use printing::{print_degrees, print_matrix};

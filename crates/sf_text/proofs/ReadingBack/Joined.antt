@@ -78,7 +78,7 @@ module _ (c : ℕ) where
       ap (option_map (λ i. drop (i + 1) (x ++ c ∷ text))) (position-first x text h)
       ∙ ap Some (drop-append-add x (c ∷ text) 1)
 
-  position-whole : (x : List ℕ) → Lacks c x → position (λ b. b == c) x ≡ None
+  pub position-whole : (x : List ℕ) → Lacks c x → position (λ b. b == c) x ≡ None
   position-whole x h =
       let at = position_or_len-whole x h in
       let past : nat_lt (length x) (length x) ≡ false = grind (arith, nat_tests) in

@@ -1,5 +1,5 @@
 -- A printed matrix reads back as itself.
-use Rattle.std.proofs.Common.{◌≡◌, ℕ, ◌+◌, ◌<◌, List, [], ◌∷◌, length, map, true, None, refl, sym, ap, subst, ◌∙◌, ℤ, arith}
+use Rattle.std.proofs.Common.{◌≡◌, ℕ, zero, suc, ◌+◌, ◌<◌, List, [], ◌∷◌, length, map, true, None, refl, sym, ap, subst, ◌∙◌, ℤ, arith}
 use Rattle.std.specs.List.{AllByRecursion, list_all}
 use Rattle.std.specs.Ordering.{int_eq}
 use Rattle.std.proofs.lemmas.Bool.Decides.{Decides-int_eq}
@@ -10,9 +10,10 @@ use Rattle.sf_algebra.specs.Vectors.{Place, Vector, place_degree, row_degree, Is
 use Rattle.sf_algebra.proofs.Vectors.Entries.{without_position}
 use Rattle.sf_text.specs.MatrixText.{matrix_written}
 use Rattle.sf_text.specs.Placed.{row_vector, is_homogeneous, first_fault}
-use Rattle.sf_text.specs.ReadingBack.{IsWritableRing, IsWritableMonomial, IsWritableRow, without_degree, ReadsBack, ReadsBackWithoutRows, HasReadDegree}
+use Rattle.sf_text.specs.ReadingBack.{IsWritableRing, IsWritableMonomial, IsWritableRow, IsOneWord, without_degree, ReadsBack, ReadsBackWithoutRows, HasReadDegree}
 use Rattle.sf_text.specs.declared.ring.Ring.{Ring}
-use Rattle.sf_text.proofs.ReadingBack.Rows.{HasWritableTerms, raw_row, matrix_written-rows}
+use Rattle.sf_text.proofs.ReadingBack.OneWord.{one_word}
+use Rattle.sf_text.proofs.ReadingBack.Rows.{HasWritableTerms, raw_row, matrix_written-rows, rows_text-each}
 use Rattle.sf_text.proofs.ReadingBack.Columns.{IsWithin, IsReadTerm, row-read}
 use Rattle.sf_text.proofs.ReadingBack.Shapes.{has_shape-raw, first_unknown-raw}
 
@@ -83,6 +84,11 @@ module _ (ring : Ring) (h : IsWritableRing ring) (degrees : List ℤ) where
   rows-read (v ∷ vs) k monomials =
       (λ i. row_vector-read v k.0 monomials.0 i ∷ rows-read vs k.1 monomials.1 i)
 
+rows_text-filled : (names : List (List ℕ)) (columns : ℕ) (rows : List Vector)
+    → 0 < length (rows_text names columns rows)
+rows_text-filled names zero rows = omega arith
+rows_text-filled names (suc n) rows = omega arith
+
 pub reads_back : ReadsBack
 reads_back ring m h some =
     let rows = subst (λ r. AllByRecursion (IsVector r m.target) m.rows) h.over h.matrix in
@@ -90,6 +96,11 @@ reads_back ring m h some =
     let same = rows-read ring h.writable m.target m.rows rows h.monomials in
     record {
       raw = record { rows = map (raw_row ring.names columns) m.rows };
+      one =
+          one_word (rows_text ring.names columns m.rows)
+          (rows_text-each ring.names h.writable.few h.writable.names columns some m.rows
+          (rows-writable ring h.writable m.target m.rows rows h.monomials))
+          (rows_text-filled ring.names columns m.rows);
       written =
           matrix_written-rows ring.names h.writable.few h.writable.names columns some m.rows
           (rows-writable ring h.writable m.target m.rows rows h.monomials);
@@ -102,6 +113,7 @@ reads_back ring m h some =
 pub reads_back_without_rows : ReadsBackWithoutRows
 reads_back_without_rows ring m h none = record {
   raw = record { rows = [] };
+  one = subst (λ (degrees : List ℤ). IsOneWord (rows_text ring.names (length degrees) m.rows)) (sym none) (record { line = refl; word = refl });
   written = ap (λ (degrees : List ℤ). matrix_written (rows_text ring.names (length degrees) m.rows)) none;
   known = refl;
   shaped = refl;

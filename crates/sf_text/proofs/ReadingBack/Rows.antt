@@ -1,17 +1,20 @@
 -- The rows of a matrix, as they are printed, read back.
 use Rattle.std.proofs.Common.{◌≡◌, ◌⊎◌, inl, inr, ℕ, zero, suc, ◌+◌, ◌<◌, ◌≤◌, List, [], ◌∷◌, ◌++◌, length, take, map, ◌==◌, nat_le, Bool, true, false, cond, Some, None, refl, ap, ◌∙◌, length-append, slice_index, ◌-◌, arith}
 use Rattle.std.specs.List.{AllByRecursion, range_with_len, cons_option, join_with_byte}
+use Rattle.std.specs.Option.{option_map}
 use Rattle.std.proofs.lemmas.Bool.Decides.{nat_tests}
 use Rattle.std.proofs.Math.Seq.{take-append_seam, get_or-append_seam}
 use Rattle.sf_algebra.specs.Monomials.{Monomial}
 use Rattle.sf_algebra.specs.Printing.{polynomial_text, row_text, rows_text, comma, semicolon}
 use Rattle.sf_algebra.specs.Terms.{Term}
 use Rattle.sf_algebra.specs.Vectors.{Place, Vector, entry}
-use Rattle.sf_algebra.proofs.Basics.Lists.{AllByRecursion-weaken}
+use Rattle.sf_algebra.proofs.Basics.Lists.{AllByRecursion-append, AllByRecursion-weaken}
 use Rattle.sf_algebra.proofs.Vectors.Entries.{without_position}
 use Rattle.sf_text.specs.MatrixText.{all_of, entry_of, row_of, rows_of, is_bracketed, inner, matrix_written}
 use Rattle.sf_text.specs.Raw.{RawTerm}
 use Rattle.sf_text.specs.Words.{parts}
+use Rattle.sf_text.specs.declared.raw.RawMatrix.{RawMatrix}
+use Rattle.sf_text.proofs.ReadingBack.OneWord.{IsPrintedByte, IsPrinted}
 use Rattle.sf_text.proofs.ReadingBack.Joined.{joined-each, Lacks, parts-joined}
 use Rattle.sf_text.proofs.ReadingBack.Factors.{AreNames}
 use Rattle.sf_text.proofs.ReadingBack.Terms.{IsEntryByte, IsWritableTerm, raw_entry, polynomial_text-each, entry_of-polynomial, all_of-map}
@@ -106,22 +109,31 @@ rows_of-joined [] rows h e = e
 rows_of-joined (x ∷ xs) rows h e =
     rows_of-filled (join_with_byte semicolon (x ∷ xs)) rows (ap (all_of row_of) (parts-joined semicolon x xs h) ∙ e)
 
-matrix_written-inner : (text between : List ℕ) (rows : List (List (List RawTerm))) → is_bracketed text ≡ true
-    → inner text ≡ between → rows_of between ≡ Some rows → matrix_written text ≡ Some (record { rows = rows })
-matrix_written-inner text between rows brackets is e = rw (brackets, is, e)
+-- what stands between two bytes
+pub inner-between : (b c : ℕ) (text : List ℕ) → inner (b ∷ text ++ c ∷ []) ≡ text
+inner-between b c text =
+    let size : length (text ++ c ∷ []) ≡ length text + 1 = length-append text (c ∷ []) in
+    let front : length (b ∷ text ++ c ∷ []) - 2 ≡ length text = omega arith in
+    ap (λ n. take n (text ++ c ∷ [])) front ∙ take-append_seam text (c ∷ [])
 
--- a text in brackets
-matrix_written-brackets : (text : List ℕ) (rows : List (List (List RawTerm))) → rows_of text ≡ Some rows
-    → matrix_written (91 ∷ text ++ 93 ∷ []) ≡ Some (record { rows = rows })
-matrix_written-brackets text rows e =
+is_bracketed-brackets : (text : List ℕ) → is_bracketed (91 ∷ text ++ 93 ∷ []) ≡ true
+is_bracketed-brackets text =
     let size : length (text ++ 93 ∷ []) ≡ length text + 1 = length-append text (93 ∷ []) in
-    let front : length (91 ∷ text ++ 93 ∷ []) - 2 ≡ length text = omega arith in
     let end : length (91 ∷ text ++ 93 ∷ []) - 1 ≡ suc (length text) = omega arith in
     let two : nat_le 2 (length (91 ∷ text ++ 93 ∷ [])) ≡ true = grind (arith, nat_tests) in
     let closing : slice_index (91 ∷ text ++ 93 ∷ []) (length (91 ∷ text ++ 93 ∷ []) - 1) ≡ 93 =
     ap (slice_index (91 ∷ text ++ 93 ∷ [])) end ∙ get_or-append_seam text 93 [] 0 in
-    matrix_written-inner (91 ∷ text ++ 93 ∷ []) text rows (rw (two, closing))
-    (ap (λ n. take n (text ++ 93 ∷ [])) front ∙ take-append_seam text (93 ∷ [])) e
+    rw (two, closing)
+
+matrix_written-brackets : (text : List ℕ) (rows : List (List (List RawTerm))) → rows_of text ≡ Some rows
+    → matrix_written (91 ∷ text ++ 93 ∷ []) ≡ Some (record { rows = rows })
+matrix_written-brackets text rows e =
+    ap (λ b. cond b (option_map as_matrix (rows_of (inner (91 ∷ text ++ 93 ∷ [])))) None) (is_bracketed-brackets text)
+    ∙ ap (λ between. option_map as_matrix (rows_of between)) (inner-between 91 93 text)
+    ∙ ap (option_map as_matrix) e
+  where
+    as_matrix : List (List (List RawTerm)) → RawMatrix
+    as_matrix rows = record { rows = rows }
 
 pub matrix_written-rows : (names : List (List ℕ)) → length names ≤ 6 → AreNames names → (columns : ℕ) → 0 < columns
     → (rows : List Vector) → AllByRecursion (λ (v : Vector). HasWritableTerms names v.terms) rows
@@ -131,3 +143,21 @@ matrix_written-rows names few named (suc n) some rows h =
     matrix_written-brackets (join_with_byte semicolon (map (λ (v : Vector). row_text names (suc n) v.terms) rows))
     (map (raw_row names (suc n)) rows)
     (rows_of-joined _ _ (rows-each names few named (suc n) rows h) (rows-read names few named (suc n) some rows h))
+
+-- no byte of the printed rows is a space or ends a line
+pub rows_text-each : (names : List (List ℕ)) → length names ≤ 6 → AreNames names → (columns : ℕ) → 0 < columns
+    → (rows : List Vector) → AllByRecursion (λ (v : Vector). HasWritableTerms names v.terms) rows
+    → IsPrinted (rows_text names columns rows)
+rows_text-each names few named zero some rows h = absurd (omega arith)
+rows_text-each names few named (suc n) some rows h =
+    let texts = map (λ (v : Vector). row_text names (suc n) v.terms) rows in (
+      omega arith,
+      AllByRecursion-append IsPrintedByte (join_with_byte semicolon texts) (93 ∷ [])
+          (joined-each IsPrintedByte semicolon (omega arith) texts (printed rows h)) (omega arith, tt),
+    )
+  where
+    printed : (vs : List Vector) → AllByRecursion (λ (v : Vector). HasWritableTerms names v.terms) vs
+        → AllByRecursion IsPrinted (map (λ (v : Vector). row_text names (suc n) v.terms) vs)
+    printed [] k = tt
+    printed (v ∷ vs) k =
+        (AllByRecursion-weaken _ _ (λ b e. omega arith) (row_text names (suc n) v.terms) (row_text-each names few named (suc n) v.terms k.0), printed vs k.1)
