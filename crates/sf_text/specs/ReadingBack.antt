@@ -1,6 +1,6 @@
--- A printed matrix reads back as itself: the text of its rows, in brackets, and the degrees before it. The degree of a row
--- stands among these alone, so a row that is 0 is read from the brackets with the degree 0. (The grammar and the way of
--- printing are this project's own.)
+-- A printed matrix reads back as itself: the text of its rows, in brackets, and the degrees before it. The degree of a
+-- row stands among these alone, so a row that is 0 is read from the brackets with the degree 0. (The grammar and the way
+-- of printing are this project's own.)
 use Rattle.std.specs.Prelude.{◌≡◌, ℕ, ◌<◌, ◌≤◌, ◌^◌, true, Some, None, List, [], ◌∷◌, length, map, drop, ℤ}
 use Rattle.std.specs.Fmt.{signed_decimal}
 use Rattle.std.specs.List.{AllByRecursion, IsDistinct}
@@ -18,7 +18,8 @@ use Rattle.sf_text.specs.Words.{script_lines, words, parts, is_name, is_integer,
 use Rattle.sf_text.specs.declared.raw.RawMatrix.{RawMatrix}
 use Rattle.sf_text.specs.declared.ring.Ring.{Ring}
 
--- a ring whose constants and variables the grammar can write: residues of at most 18 digits, and at most six different names
+-- a ring whose constants and variables the grammar can write: residues of at most 18 digits, and at most six names, all
+-- different
 pub record IsWritableRing (ring : Ring) : Type 0 where
   pub positive : 0 < ring.modulus
   pub digits : ring.modulus ≤ 10 ^ 18
@@ -54,20 +55,25 @@ pub record IsOneWord (text : List ℕ) : Type 0 where
   pub line : script_lines text ≡ text ∷ []
   pub word : words text ≡ text ∷ []
 
--- the text of the rows is a word that the grammar has, nothing in it is refused over the target of m, and it means this
--- matrix
+-- the text of the rows is a word that the grammar can read, nothing in it is refused over the target of m, and it means
+-- this matrix
 pub record IsReadAs (ring : Ring) (m read : Matrix) : Type 0 where
   pub raw : RawMatrix
-  pub one : IsOneWord (rows_text ring.names (length m.target) m.rows)
+  pub one_word : IsOneWord (rows_text ring.names (length m.target) m.rows)
   pub written : matrix_written (rows_text ring.names (length m.target) m.rows) ≡ Some raw
   pub known : first_unknown ring.names raw.rows ≡ None
   pub shaped : has_shape (length m.target) raw.rows ≡ true
   pub homogeneous : first_fault 1 m.target (relations_of ring m.target raw.rows).rows ≡ None
   pub means : relations_of ring m.target raw.rows ≡ read
 
--- a printed matrix that has a column reads back as itself, but for the degrees of its rows that are 0
+-- a printed matrix that has a column reads back as itself, where no row is 0
 abbrev pub ReadsBack : Type 0
-ReadsBack =
+ReadsBack = (ring : Ring) (m : Matrix) → IsWritable ring m → 0 < length m.target
+    → AllByRecursion (λ (v : Vector). 0 < length v.terms) m.rows → IsReadAs ring m m
+
+-- else the degrees of the rows that are 0 are lost, and nothing more
+abbrev pub ReadsBackWithoutDegrees : Type 0
+ReadsBackWithoutDegrees =
     (ring : Ring) (m : Matrix) → IsWritable ring m → 0 < length m.target → IsReadAs ring m (without_row_degrees m)
 
 -- with no column it reads back as the matrix without rows: the text is [] whatever the number of rows

@@ -1,12 +1,13 @@
 //! Laws of what is printed and read. The functions do nothing: their contracts are the laws.
 
-ghost use Rattle.sf_text.specs.ReadingBack.{ReadsBack, ReadsBackWithoutRows, HasReadDegree, DegreesReadBack};
+ghost use Rattle.sf_text.specs.ReadingBack.{ReadsBack, ReadsBackWithoutDegrees, ReadsBackWithoutRows, HasReadDegree, DegreesReadBack};
 
 /// The rows that are printed of a matrix read back as the matrix.
 ///
 /// A row that is 0 is read with the degree 0, and over no column no row is read.
 pub fn printed_matrices_read_back()
-    ensures columns { ReadsBack }
+    ensures nonzero { ReadsBack }
+    ensures columns { ReadsBackWithoutDegrees }
     ensures no_column { ReadsBackWithoutRows }
     ensures degree { HasReadDegree }
 {}

@@ -57,4 +57,5 @@ pub degrees_read_back : DegreesReadBack
 degrees_read_back [] some h = absurd (omega arith)
 degrees_read_back (d ∷ ds) some h =
     let read = read-degrees (d ∷ ds) h in
-    (ap (parts comma) (inner-between 40 41 (join_with_byte comma (map signed_decimal (d ∷ ds)))) ∙ parts-joined comma (signed_decimal d) (map signed_decimal ds) read.0, read.1)
+    let between = inner-between 40 41 (join_with_byte comma (map signed_decimal (d ∷ ds))) in
+    (ap (parts comma) between ∙ parts-joined comma (signed_decimal d) (map signed_decimal ds) read.0, read.1)

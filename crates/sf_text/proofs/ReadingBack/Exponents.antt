@@ -106,4 +106,5 @@ pub placed_term-raw : (ring : Ring) (column : ℕ) (t : Term Monomial) → IsDis
     → length ring.names ≤ 6 → AllByRecursion (λ e. e ≡ 0) (drop (length ring.names) (exponents t.at))
     → t.coefficient < ring.modulus → placed_term ring column (raw_term ring.names t) ≡ at_column column t
 placed_term-raw ring column t distinct few known below =
-    (λ i. record { at = record { position = column; monomial = monomial_of-raw ring.names t.at distinct few known i }; coefficient = mod-eq_of_lt below i })
+    let same = monomial_of-raw ring.names t.at distinct few known in
+    (λ i. record { at = record { position = column; monomial = same i }; coefficient = mod-eq_of_lt below i })

@@ -7,7 +7,7 @@ use Rattle.std.proofs.lemmas.List.{length-append}
 use Rattle.std.proofs.lemmas.List.Splits.{slice_split-cons_yes, slice_split-cons_no}
 use Rattle.std.proofs.Math.Seq.{take-append_seam, drop-append-add}
 use Rattle.sf_algebra.specs.Printing.{plus}
-use Rattle.sf_algebra.proofs.Basics.Lists.{AllByRecursion-append}
+use Rattle.sf_algebra.proofs.Basics.Lists.{AllByRecursion-append, AllByRecursion-weaken}
 use Rattle.sf_text.specs.MatrixText.{minus, is_sign, onto_first_text, signed_parts}
 use Rattle.sf_text.specs.Words.{parts, before, behind}
 use Rattle.sf_text.proofs.Cuts.{before-Some, before-None}
@@ -20,6 +20,11 @@ joined-each P c h [] each = tt
 joined-each P c h (x ∷ []) each = each.0
 joined-each P c h (x ∷ y ∷ xs) each =
     AllByRecursion-append P x (c ∷ join_with_byte c (y ∷ xs)) each.0 (h, joined-each P c h (y ∷ xs) each.1)
+
+-- where the fact implies another
+pub each-weaken : (P Q : ℕ → Type 0) → ((b : ℕ) → P b → Q b) → (texts : List (List ℕ))
+    → AllByRecursion (AllByRecursion P) texts → AllByRecursion (AllByRecursion Q) texts
+each-weaken P Q f texts h = AllByRecursion-weaken _ _ (AllByRecursion-weaken P Q f) texts h
 
 -- a byte doesn't stand in a text
 abbrev pub Lacks : ℕ → List ℕ → Type 0

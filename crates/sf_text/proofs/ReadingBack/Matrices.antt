@@ -10,7 +10,7 @@ use Rattle.sf_algebra.specs.Vectors.{Place, Vector, place_degree, row_degree, Is
 use Rattle.sf_algebra.proofs.Vectors.Entries.{without_position}
 use Rattle.sf_text.specs.MatrixText.{matrix_written}
 use Rattle.sf_text.specs.Placed.{row_vector, is_homogeneous, first_fault}
-use Rattle.sf_text.specs.ReadingBack.{IsWritableRing, IsWritableMonomial, IsWritableRow, IsOneWord, without_degree, ReadsBack, ReadsBackWithoutRows, HasReadDegree}
+use Rattle.sf_text.specs.ReadingBack.{IsWritableRing, IsWritableMonomial, IsWritableRow, IsOneWord, IsReadAs, without_degree, ReadsBack, ReadsBackWithoutDegrees, ReadsBackWithoutRows, HasReadDegree}
 use Rattle.sf_text.specs.declared.ring.Ring.{Ring}
 use Rattle.sf_text.proofs.ReadingBack.OneWord.{one_word}
 use Rattle.sf_text.proofs.ReadingBack.Rows.{HasWritableTerms, raw_row, matrix_written-rows, rows_text-each}
@@ -89,14 +89,14 @@ rows_text-filled : (names : List (List ℕ)) (columns : ℕ) (rows : List Vector
 rows_text-filled names zero rows = omega arith
 rows_text-filled names (suc n) rows = omega arith
 
-pub reads_back : ReadsBack
-reads_back ring m h some =
+pub reads_back_without_degrees : ReadsBackWithoutDegrees
+reads_back_without_degrees ring m h some =
     let rows = subst (λ r. AllByRecursion (IsVector r m.target) m.rows) h.over h.matrix in
     let columns = length m.target in
     let same = rows-read ring h.writable m.target m.rows rows h.monomials in
     record {
       raw = record { rows = map (raw_row ring.names columns) m.rows };
-      one =
+      one_word =
           one_word (rows_text ring.names columns m.rows)
           (rows_text-each ring.names h.writable.few h.writable.names columns some m.rows
           (rows-writable ring h.writable m.target m.rows rows h.monomials))
@@ -110,10 +110,25 @@ reads_back ring m h some =
       means = (λ i. record { ring = sym h.over i; target = m.target; rows = same i });
     }
 
+degrees_read : (p : ℕ) (degrees : List ℤ) (rows : List Vector) → AllByRecursion (IsVector (plain p) degrees) rows
+    → AllByRecursion (λ (v : Vector). 0 < length v.terms) rows → map (without_degree degrees) rows ≡ rows
+degrees_read p degrees [] h some = refl
+degrees_read p degrees (v ∷ vs) h some =
+    (λ i. has_read_degree p degrees v h.0 some.0 i ∷ degrees_read p degrees vs h.1 some.1 i)
+
+pub reads_back : ReadsBack
+reads_back ring m h columns some =
+    let rows = subst (λ r. AllByRecursion (IsVector r m.target) m.rows) h.over h.matrix in
+    let same = degrees_read ring.modulus m.target m.rows rows some in
+    subst (λ (vs : List Vector). IsReadAs ring m (record { ring = m.ring; target = m.target; rows = vs })) same
+    (reads_back_without_degrees ring m h columns)
+
 pub reads_back_without_rows : ReadsBackWithoutRows
 reads_back_without_rows ring m h none = record {
   raw = record { rows = [] };
-  one = subst (λ (degrees : List ℤ). IsOneWord (rows_text ring.names (length degrees) m.rows)) (sym none) (record { line = refl; word = refl });
+  one_word =
+      subst (λ (degrees : List ℤ). IsOneWord (rows_text ring.names (length degrees) m.rows)) (sym none)
+      (record { line = refl; word = refl });
   written = ap (λ (degrees : List ℤ). matrix_written (rows_text ring.names (length degrees) m.rows)) none;
   known = refl;
   shaped = refl;

@@ -15,7 +15,7 @@ use Rattle.sf_text.specs.Raw.{RawTerm}
 use Rattle.sf_text.specs.Words.{parts}
 use Rattle.sf_text.specs.declared.raw.RawMatrix.{RawMatrix}
 use Rattle.sf_text.proofs.ReadingBack.OneWord.{IsPrintedByte, IsPrinted}
-use Rattle.sf_text.proofs.ReadingBack.Joined.{joined-each, Lacks, parts-joined}
+use Rattle.sf_text.proofs.ReadingBack.Joined.{joined-each, each-weaken, Lacks, parts-joined}
 use Rattle.sf_text.proofs.ReadingBack.Factors.{AreNames}
 use Rattle.sf_text.proofs.ReadingBack.Terms.{IsEntryByte, IsWritableTerm, raw_entry, polynomial_text-each, entry_of-polynomial, all_of-map}
 
@@ -66,12 +66,15 @@ module _ (names : List (List ℕ)) (few : length names ≤ 6) (named : AreNames 
     row_text-each : AllByRecursion IsRowByte (row_text names columns ts)
     row_text-each =
         joined-each IsRowByte comma (inr refl) (map (λ i. polynomial_text names (entry i ts)) (range_with_len 0 columns))
-        (AllByRecursion-weaken _ _ (λ text. AllByRecursion-weaken _ _ (λ b k. inl k) text) _ (entries-each (range_with_len 0 columns)))
+        (each-weaken _ _ (λ b k. inl k) _ (entries-each (range_with_len 0 columns)))
 
     entries-lack_comma : (is : List ℕ)
         → AllByRecursion (Lacks comma) (map (λ i. polynomial_text names (entry i ts)) is)
     entries-lack_comma is =
-        AllByRecursion-weaken _ _ (λ text. AllByRecursion-weaken _ _ (λ b k not. omega arith) text) _ (entries-each is)
+        each-weaken _ _ (λ b k not. omega arith) _ (entries-each is)
+
+    entry-read : (i : ℕ) → entry_of (polynomial_text names (entry i ts)) ≡ Some (raw_entry names (entry i ts))
+    entry-read i = entry_of-polynomial names few named (entry i ts) (entry-each (IsWritableTerm names) i ts h)
 
     row_of-text : 0 < columns → row_of (row_text names columns ts) ≡ Some (raw_entries names 0 columns ts)
     row_of-text some = by columns some
@@ -79,12 +82,10 @@ module _ (names : List (List ℕ)) (few : length names ≤ 6) (named : AreNames 
         by : (n : ℕ) → 0 < n → row_of (row_text names n ts) ≡ Some (raw_entries names 0 n ts)
         by zero some = absurd (omega arith)
         by (suc n) some =
-            ap (all_of entry_of)
-            (parts-joined comma (polynomial_text names (entry 0 ts)) (map (λ i. polynomial_text names (entry i ts)) (range_with_len 1 n))
-            (entries-lack_comma (range_with_len 0 (suc n))))
-            ∙ all_of-map entry_of (λ i. polynomial_text names (entry i ts)) (λ i. raw_entry names (entry i ts))
-            (range_with_len 0 (suc n))
-            (each _ (λ i. entry_of-polynomial names few named (entry i ts) (entry-each (IsWritableTerm names) i ts h)) (range_with_len 0 (suc n)))
+            let places = range_with_len 0 (suc n) in
+            let text = λ (i : ℕ). polynomial_text names (entry i ts) in
+            ap (all_of entry_of) (parts-joined comma (text 0) (map text (range_with_len 1 n)) (entries-lack_comma places))
+            ∙ all_of-map entry_of text (λ i. raw_entry names (entry i ts)) places (each _ entry-read places)
 
   rows-each : (rows : List Vector) → AllByRecursion (λ (v : Vector). HasWritableTerms names v.terms) rows
       → AllByRecursion (Lacks semicolon) (map (λ (v : Vector). row_text names columns v.terms) rows)
@@ -160,4 +161,5 @@ rows_text-each names few named (suc n) some rows h =
         → AllByRecursion IsPrinted (map (λ (v : Vector). row_text names (suc n) v.terms) vs)
     printed [] k = tt
     printed (v ∷ vs) k =
-        (AllByRecursion-weaken _ _ (λ b e. omega arith) (row_text names (suc n) v.terms) (row_text-each names few named (suc n) v.terms k.0), printed vs k.1)
+        let bytes = row_text-each names few named (suc n) v.terms k.0 in
+        (AllByRecursion-weaken _ _ (λ b e. omega arith) (row_text names (suc n) v.terms) bytes, printed vs k.1)

@@ -1,6 +1,7 @@
 -- A matrix that was read back has an entry for each column, and no variable but the ring's.
 use Rattle.std.proofs.Common.{◌≡◌, ℕ, List, [], ◌∷◌, length, map, ◌==◌, ◌||◌, Bool, true, false, cond, None, refl, ap, arith}
 use Rattle.std.specs.List.{AllByRecursion, list_all, range_with_len}
+use Rattle.std.specs.Str.{bytes_eq}
 use Rattle.std.proofs.lemmas.Bool.Decides.{nat_tests}
 use Rattle.std.proofs.lemmas.List.{length-map}
 use Rattle.std.proofs.lemmas.List.FromFn.{length-range_with_len}
@@ -41,7 +42,9 @@ either false b e = e
 among : (names : List (List ℕ)) → AllByRecursion (λ name. is_among names name ≡ true) names
 among [] = tt
 among (name ∷ names) =
-    (ap (λ b. b || is_among names name) (bytes_eq-same name), AllByRecursion-weaken _ _ (λ other e. either _ (is_among names other) e) names (among names))
+    let others =
+    AllByRecursion-weaken _ _ (λ other e. either (bytes_eq name other) (is_among names other) e) names (among names) in
+    (ap (λ b. b || is_among names name) (bytes_eq-same name), others)
 
 knows_factors : (all names : List (List ℕ)) (es : List ℕ) → AllByRecursion (λ name. is_among all name ≡ true) names
     → list_all (knows_factor all) (raw_factors names es) ≡ true

@@ -11,7 +11,7 @@ use Rattle.sf_text.specs.MatrixText.{minus, all_of, factor_written, with_factors
 use Rattle.sf_text.specs.Raw.{RawTerm}
 use Rattle.sf_text.specs.ReadingBack.{IsWritableMonomial}
 use Rattle.sf_text.specs.Words.{begins_with, is_number}
-use Rattle.sf_text.proofs.ReadingBack.Joined.{joined-each, Lacks, parts-joined, signed_parts-joined}
+use Rattle.sf_text.proofs.ReadingBack.Joined.{joined-each, each-weaken, Lacks, parts-joined, signed_parts-joined}
 use Rattle.sf_text.proofs.ReadingBack.Numbers.{decimal-each, are_digits-decimal, number_value-decimal}
 use Rattle.sf_text.proofs.ReadingBack.Factors.{AreNames, IsFactorByte, raw_factors, factors-read, factor_texts-each, factor_texts-names, factor_texts-none, length-raw_factors}
 
@@ -112,19 +112,20 @@ module _ (names : List (List ℕ)) (few : length names ≤ 6) (named : AreNames 
       by true true factors = (((omega arith, λ is. omega arith), tt), tt)
       by true false factors = factors
       by false t factors =
-          (AllByRecursion-weaken _ _ (λ b h. (h.0, λ is. omega (arith, h.1))) (decimal c) (decimal-each c (omega arith)), factors)
+          let bytes = decimal-each c (omega arith) in
+          (AllByRecursion-weaken _ _ (λ b h. (h.0, λ is. omega (arith, h.1))) (decimal c) bytes, factors)
 
   term_written-text : term_written (false, term_text names (record { at = a; coefficient = c }))
       ≡ Some (raw_term names (record { at = a; coefficient = c }))
   term_written-text =
       term_written-joined (term_texts names c a) _
-      (AllByRecursion-weaken _ _ (λ text. AllByRecursion-weaken _ _ (λ b h is. omega (arith, h.0)) text) (term_texts names c a) term_texts-each)
+      (each-weaken _ _ (λ b h is. omega (arith, h.0)) (term_texts names c a) term_texts-each)
       term_of-texts
 
   term_text-each : AllByRecursion IsTermByte (term_text names (record { at = a; coefficient = c }))
   term_text-each =
       joined-each IsTermByte star (inr refl) (term_texts names c a)
-      (AllByRecursion-weaken _ _ (λ text. AllByRecursion-weaken _ _ (λ b h. inl h) text) (term_texts names c a) term_texts-each)
+      (each-weaken _ _ (λ b h. inl h) (term_texts names c a) term_texts-each)
 
 -- each element is read as what it is made of
 pub all_of-map : {X Y Z : Type 0} (read : X → Option Y) (f : Z → X) (g : Z → Y) (zs : List Z)
@@ -165,7 +166,7 @@ module _ (names : List (List ℕ)) (few : length names ≤ 6) (named : AreNames 
   polynomial_text-each [] h = (inl (inl (omega arith, λ is. omega arith)), tt)
   polynomial_text-each (t ∷ ts) h =
       joined-each IsEntryByte plus (inr refl) (map (term_text names) (t ∷ ts))
-      (AllByRecursion-weaken _ _ (λ text. AllByRecursion-weaken _ _ (λ b k. inl k) text) (map (term_text names) (t ∷ ts)) (terms-each (t ∷ ts) h))
+      (each-weaken _ _ (λ b k. inl k) (map (term_text names) (t ∷ ts)) (terms-each (t ∷ ts) h))
 
   pub entry_of-polynomial : (ts : List (Term Monomial)) → AllByRecursion (IsWritableTerm names) ts
       → entry_of (polynomial_text names ts) ≡ Some (raw_entry names ts)
@@ -176,5 +177,5 @@ module _ (names : List (List ℕ)) (few : length names ≤ 6) (named : AreNames 
       (AllByRecursion-weaken _ _ (λ b k is. omega arith) (polynomial_text names (t ∷ ts)) (polynomial_text-each (t ∷ ts) h)) in
       let signed =
       signed_parts-joined (term_text names t) (map (term_text names) ts)
-      (AllByRecursion-weaken _ _ (λ text. AllByRecursion-weaken _ _ (λ b k. (λ is. omega arith, λ is. omega arith)) text) (map (term_text names) (t ∷ ts)) (terms-each (t ∷ ts) h)) in
+      (each-weaken _ _ (λ b k. (λ is. omega arith, λ is. omega arith)) (map (term_text names) (t ∷ ts)) (terms-each (t ∷ ts) h)) in
       rw (no_minus, signed) (terms-read (t ∷ ts) h)
