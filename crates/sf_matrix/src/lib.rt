@@ -3,6 +3,7 @@
 //! Contracts see each of them as the plain data of `sf_algebra`.
 #![tactic(auto)]
 
+mod bases;
 mod basis;
 mod bounds;
 mod combinations;
@@ -14,6 +15,7 @@ mod name;
 mod sums;
 mod vector;
 
+pub use bases::Bases;
 pub use basis::{BaseFault, Graph};
 pub use bounds::fits;
 pub use combinations::push_multiple;

@@ -1,0 +1,5 @@
+pub mod Questions
+pub mod Plans
+pub mod Runs
+pub mod Meets
+pub mod PlanLaws

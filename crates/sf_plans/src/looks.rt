@@ -1,0 +1,36 @@
+ghost use Rattle.std.specs.Prelude.{◌≡◌, ◌≤ℤ◌, IfOk};
+ghost use Rattle.sf_algebra.specs.Vectors.{IsVector};
+ghost use Rattle.sf_groebner.specs.Reductions.{IsReduction};
+ghost use Rattle.sf_matrix.specs.Tables.{GREATEST_REDUCED_DEGREE};
+ghost use Rattle.sf_plans.specs.Meets.{Looked, IsLookOf};
+
+use sf_field::OutOfMemory;
+use sf_matrix::{BaseFault, Bases, Matrix, Vector};
+use std::alloc::Global;
+
+/// Looks at a matrix: the number of its entry, or `None` for one without rows, which has no entry. No other function opens an
+/// entry.
+///
+/// The fault is `Large` exactly where the matrix isn't small; one that is out of bounds isn't given to the table.
+pub fn look<B: Bases>(alloc: Global, m: &Matrix, bases: &mut B) -> Result<Option<usize>, BaseFault>
+    ensures looked { Looked (B.table bases.old) m.now result (B.table bases.new) }
+{
+    Err(BaseFault::Memory)
+}
+
+/// The one pair of a vector w that is reduced by the rows of `m` and reduced coefficients c with v = w + c M, where a look at `m`
+/// found `entry`.
+pub fn reduced<B: Bases>(
+    alloc: Global,
+    m: &Matrix,
+    entry: Option<usize>,
+    v: &Vector,
+    bases: &B,
+) -> Result<(Vector, Vector), OutOfMemory>
+    requires entry { IsLookOf (B.table bases.now) m.now entry }
+    requires vector { IsVector m.now.ring m.now.target v.now }
+    requires room { v.now.degree ≤ℤ GREATEST_REDUCED_DEGREE }
+    ensures reduction { IfOk result (λ d. IsReduction m.now v.now d.0 d.1) }
+{
+    Err(OutOfMemory)
+}
