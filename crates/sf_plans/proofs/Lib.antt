@@ -1,0 +1,4 @@
+pub mod Decisions
+pub mod Answers
+pub mod Existence
+pub mod Uniqueness
