@@ -1,4 +1,3 @@
-pub mod DegreeRanges
 pub mod FinishedRows
 pub mod GraphUnits
 pub mod Insertions

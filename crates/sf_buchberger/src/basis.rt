@@ -7,11 +7,10 @@ ghost use Rattle.sf_buchberger.specs.Growth.{IsGrown};
 use crate::graph_rows::graph_rows;
 use crate::growth::grown_rows;
 use crate::parts::parts;
-use crate::sizes::has_small_size;
 use crate::sorting::sorted_rows;
 use crate::tails::reduced_rows;
 use sf_field::OutOfMemory;
-use sf_matrix::{BaseFault, Graph, Matrix};
+use sf_matrix::{BaseFault, Graph, Matrix, has_small_size};
 use sf_pairs::{Strategy, Ticks};
 use std::alloc::Global;
 

@@ -5,7 +5,6 @@ mod basis;
 mod graph_rows;
 mod growth;
 mod parts;
-mod sizes;
 mod sorting;
 mod tails;
 

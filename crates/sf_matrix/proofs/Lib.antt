@@ -5,3 +5,4 @@ pub mod Entering
 pub mod ColumnVectors
 pub mod Pieces
 pub mod KroneckerBounds
+pub mod DegreeRanges

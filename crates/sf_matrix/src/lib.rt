@@ -12,6 +12,7 @@ mod laws;
 mod list;
 mod matrix;
 mod name;
+mod sizes;
 mod sums;
 mod vector;
 
@@ -25,6 +26,7 @@ pub use list::List;
 pub use matrix::Matrix;
 pub use name::Name;
 pub use sf_field::Copied;
+pub use sizes::has_small_size;
 pub use sums::{add_terms, sum_of_terms};
 pub use vector::{Term, Vector};
 

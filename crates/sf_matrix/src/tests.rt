@@ -50,6 +50,7 @@ fn matrix_of_two_rows(rt: HostRuntime) -> Result<(), Fail> {
     matrix.push_row(Vector::zero(rt.alloc(), -2))?;
     assert_eq!(rt; matrix.rows(), 2);
     assert_eq!(rt; matrix.cols(), 2);
+    assert!(rt; has_small_size(&matrix));
     assert_eq!(rt; matrix.modulus(), seven);
     assert_eq!(rt; matrix.target().degrees.as_slice(), [0, 1].as_slice());
     assert_eq!(rt; matrix.row(1).degree(), -2);

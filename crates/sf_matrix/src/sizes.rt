@@ -2,10 +2,11 @@ ghost use Rattle.std.specs.Prelude.{◌↔◌, ◌++◌, IsTrue};
 ghost use Rattle.sf_algebra.specs.Bounds.{AreFrom, HasSmallSize};
 ghost use Rattle.sf_algebra.specs.Matrices.{row_degrees};
 
-use sf_matrix::{Matrix, fits};
+use crate::bounds::fits;
+use crate::matrix::Matrix;
 
 /// Whether the size and the degrees of a matrix are within the bounds for which bases are computed.
-pub(crate) fn has_small_size(m: &Matrix) -> bool
+pub fn has_small_size(m: &Matrix) -> bool
     ensures { IsTrue result ↔ HasSmallSize m.now }
 {
     let (low, high) = degree_range(m);

@@ -1,6 +1,6 @@
 use Rattle.std.proofs.Common.{◌≡◌, to_z, of_z, w64, rules}
 use Rattle.sf_algebra.proofs.GradedMatrices.Sizes.{HasSmallSize-Fits}
-use Rattle.sf_buchberger.proofs.sizes.has_small_size.Goals as goal
+use Rattle.sf_matrix.proofs.sizes.has_small_size.Goals as goal
 
 pub returns : goal.returns
 returns c =

@@ -4,8 +4,8 @@ use Rattle.std.specs.Int.{int_max, int_min}
 use Rattle.sf_algebra.specs.Matrices.{degrees_of, row_degrees}
 use Rattle.sf_algebra.specs.Vectors.{Vector}
 use Rattle.sf_matrix.proofs.Pieces.{map-take}
-use Rattle.sf_buchberger.proofs.DegreeRanges.{AreFrom-more}
-use Rattle.sf_buchberger.proofs.sizes.degree_range.Goals as goal
+use Rattle.sf_matrix.proofs.DegreeRanges.{AreFrom-more}
+use Rattle.sf_matrix.proofs.sizes.degree_range.Goals as goal
 
 pub loop-i-preserved : goal.loop-i-preserved
 loop-i-preserved c =
