@@ -6,3 +6,4 @@ pub mod WithoutRows
 pub mod Readings
 pub mod Growth
 pub mod Rules
+pub mod LookRules

@@ -4,8 +4,8 @@ ghost use Rattle.sf_groebner.specs.Reductions.{IsReduction};
 ghost use Rattle.sf_matrix.specs.Tables.{GREATEST_REDUCED_DEGREE};
 ghost use Rattle.sf_plans.specs.Meets.{Looked, IsLookOf};
 
-use sf_field::OutOfMemory;
-use sf_matrix::{BaseFault, Bases, Matrix, Vector};
+use sf_field::{Copied, OutOfMemory};
+use sf_matrix::{BaseFault, Bases, Matrix, Vector, has_small_size};
 use std::alloc::Global;
 
 /// Looks at a matrix: the number of its entry, or `None` for one without rows, which has no entry. No other function opens an
@@ -15,7 +15,18 @@ use std::alloc::Global;
 pub fn look<B: Bases>(alloc: Global, m: &Matrix, bases: &mut B) -> Result<Option<usize>, BaseFault>
     ensures looked { Looked (B.table bases.old) m.now result (B.table bases.new) }
 {
-    Err(BaseFault::Memory)
+    m.modulus().facts();
+    if m.rows() == 0 {
+        return Ok(None);
+    }
+    if !has_small_size(m) {
+        return Err(BaseFault::Large {
+            rows: m.rows() as u64,
+            cols: m.cols() as u64,
+        });
+    }
+    let k = bases.open(alloc, m)?;
+    Ok(Some(k))
 }
 
 /// The one pair of a vector w that is reduced by the rows of `m` and reduced coefficients c with v = w + c M, where a look at `m`
@@ -32,5 +43,9 @@ pub fn reduced<B: Bases>(
     requires room { v.now.degree ≤ℤ GREATEST_REDUCED_DEGREE }
     ensures reduction { IfOk result (λ d. IsReduction m.now v.now d.0 d.1) }
 {
-    Err(OutOfMemory)
+    m.modulus().facts();
+    match entry {
+        Some(k) => bases.reduce(alloc, k, v),
+        None => Ok((v.copy(alloc)?, Vector::zero(alloc, v.degree()))),
+    }
 }
