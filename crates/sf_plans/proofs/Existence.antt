@@ -1,5 +1,5 @@
 -- For each limit a plan has a run to its end.
-use Rattle.std.proofs.Common.{◌⊎◌, inl, inr, ℕ, List, [], ◌∷◌, Result, Ok, Err}
+use Rattle.std.proofs.Common.{inl, inr, ℕ, List, [], ◌∷◌, Result, Ok, Err}
 use Rattle.sf_algebra.specs.Matrices.{Matrix}
 use Rattle.sf_groebner.proofs.Constructions.MatrixBases.{small_or_large}
 use Rattle.sf_matrix.specs.declared.basis.BaseFault.TheVariants.{Large}

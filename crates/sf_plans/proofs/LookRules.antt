@@ -1,5 +1,5 @@
 -- What a look meets: one at no rows, one out of bounds, and one for which the table was asked.
-use Rattle.std.proofs.Common.{◌≡◌, ℕ, ◌<◌, List, [], ◌∷◌, length, Option, Some, None, IsSome, is_some, IfSome, Result, Ok, Err, IfOk, refl, sym, ap, subst, arith}
+use Rattle.std.proofs.Common.{◌≡◌, ℕ, ◌<◌, List, [], ◌∷◌, length, Option, Some, None, Ok, Err, refl, sym, ap, subst, arith}
 use Rattle.sf_algebra.specs.Bounds.{HasSmallSize}
 use Rattle.sf_algebra.specs.Matrices.{Matrix, IsMatrix}
 use Rattle.sf_algebra.specs.Primes.{IsPrime}
@@ -10,12 +10,12 @@ use Rattle.sf_groebner.specs.Reductions.{IsReduction}
 use Rattle.sf_groebner.specs.Small.{IsSmall}
 use Rattle.sf_matrix.specs.declared.basis.BaseFault.TheVariants.{Memory, Large}
 use Rattle.sf_matrix.specs.declared.basis.BaseFault.{BaseFault}
-use Rattle.sf_matrix.specs.Tables.{Table, Opened, graph_at, matrix_at}
-use Rattle.sf_plans.specs.Meets.{Meets, Looked, IsLookOf}
+use Rattle.sf_matrix.specs.Tables.{Table, Opened}
+use Rattle.sf_plans.specs.Meets.{Meets, Looked, IsLookOf, without_rows, with_entry, with_fault}
 use Rattle.sf_plans.specs.Plans.{look_plan}
 use Rattle.sf_plans.specs.Runs.{Run, IsFit, large, ends, skips, looks, outgrows, refuses}
 use Rattle.sf_plans.proofs.Growth.{grown_none}
-use Rattle.sf_plans.proofs.Rules.{graph_at-entry, matrix_at-entry, meets_memory}
+use Rattle.sf_plans.proofs.Rules.{meets_memory}
 use Rattle.sf_plans.proofs.WithoutRows.{reduction-no_rows, zero_vector}
 
 no_items : {X : Type 0} (xs : List X) → length xs ≡ 0 → xs ≡ []
@@ -37,17 +37,22 @@ field_of ring p same prime =
 
 module _ (t : Table) (m : Matrix) (field : IsOverField m.ring) where
   pub looked_none : length m.rows ≡ 0 → Looked t m (Ok None) t
-  looked_none zero = let none = no_items m.rows zero in (none, record { looked = []; run = skips (record { field = field; none = none }) ends; grown = grown_none t })
+  looked_none zero =
+      let none = no_items m.rows zero in
+      without_rows none
+      (record { looked = []; run = skips (record { field = field; none = none }) ends; grown = grown_none t })
 
   pub looked_beyond : (rows columns : ℕ) → rows ≡ length m.rows → columns ≡ length m.target → 0 < length m.rows
       → (HasSmallSize m → ⊥) → Looked t m (Err (Large rows columns)) t
-  looked_beyond rows columns same_rows same_columns row beyond = record {
-    looked = [];
-    run =
-        large_as t m rows columns same_rows same_columns
-        (refuses (λ rowless. clash (length m.rows) row (ap length rowless.none)) (λ fit. beyond fit.size));
-    grown = grown_none t;
-  }
+  looked_beyond rows columns same_rows same_columns row beyond =
+      with_fault
+      (record {
+        looked = [];
+        run =
+            large_as t m rows columns same_rows same_columns
+            (refuses (λ rowless. clash (length m.rows) row (ap length rowless.none)) (λ fit. beyond fit.size));
+        grown = grown_none t;
+      })
     where
       clash : (n : ℕ) → 0 < n → n ≡ 0 → ⊥
       clash n l e = omega arith
@@ -57,39 +62,20 @@ module _ (t : Table) (m : Matrix) (field : IsOverField m.ring) where
     fit = record { row = row; field = field; matrix = matrix; size = size }
 
     pub looked_opened : (k : ℕ) → Opened t m (Ok k) u → Looked t m (Ok (Some k)) u
-    looked_opened k (opened, grown) = (
-      opened.elements,
-      opened.entry,
-      record {
-        looked = m ∷ [];
-        run = looks opened.elements fit (subst (λ limit. IsSmall limit m opened.elements) grown.limit opened.small) ends;
-        grown = grown;
-      },
-    )
+    looked_opened k (opened, grown) =
+        let small = subst (λ limit. IsSmall limit m opened.elements) grown.limit opened.small in
+        with_entry opened.elements opened.entry
+        (record { looked = m ∷ []; run = looks opened.elements fit small ends; grown = grown })
 
     pub looked_fails : (fault : BaseFault) → Opened t m (Err fault) u → Looked t m (Err fault) u
-    looked_fails Memory same = subst (Meets t (look_plan m) (Err Memory)) (sym same) (meets_memory t (look_plan m))
-    looked_fails (Large rows columns) (same_rows, same_columns, outgrown, grown) = record {
-      looked = m ∷ [];
-      run = large_as t m rows columns same_rows same_columns (outgrows fit outgrown);
-      grown = grown;
-    }
-
--- an entry that a look found has a graph, stands for its matrix, and reduces by it
-module _ (t : Table) (m : Matrix) (k : ℕ) (found : IsLookOf t m (Some k)) where
-  pub found_graph : IsSome (graph_at t k)
-  found_graph = ap is_some (graph_at-entry t k m found.0 found.1)
-
-  pub found_matrix : (P : Matrix → Type 0) → P m → IfSome (matrix_at t k) P
-  found_matrix P h = subst (λ o. IfSome o P) (sym (matrix_at-entry t k m found.0 found.1)) h
-
-  pub of_found_matrix : (P : Matrix → Type 0) → IfSome (matrix_at t k) P → P m
-  of_found_matrix P h = subst (λ o. IfSome o P) (matrix_at-entry t k m found.0 found.1) h
-
-  pub found_reduction : {E : Type 0} (v : Vector) (r : Result (Vector × Vector) E)
-      → IfOk r (λ d. IfSome (matrix_at t k) (λ n. IsReduction n v d.0 d.1)) → IfOk r (λ d. IsReduction m v d.0 d.1)
-  found_reduction v (Ok d) h = of_found_matrix (λ n. IsReduction n v d.0 d.1) h
-  found_reduction v (Err e) h = h
+    looked_fails Memory same = with_fault (subst (Meets t (look_plan m) (Err Memory)) (sym same) meets_memory)
+    looked_fails (Large rows columns) (same_rows, same_columns, outgrown, grown) =
+        with_fault
+        (record {
+          looked = m ∷ [];
+          run = large_as t m rows columns same_rows same_columns (outgrows fit outgrown);
+          grown = grown;
+        })
 
 -- without rows a vector is what is left, and the coefficients are 0
 pub reduced_none : (t : Table) (m : Matrix) → IsOverField m.ring → (o : Option ℕ) → o ≡ None → IsLookOf t m o

@@ -1,5 +1,5 @@
 -- What a run of a plan that came to an answer tells, one step of the plan after another.
-use Rattle.std.proofs.Common.{◌≡◌, ◌⊎◌, inl, inr, ℕ, ◌<◌, List, [], ◌∷◌, ◌++◌, length, Result, Ok, Err, refl, sym, ap, subst, arith}
+use Rattle.std.proofs.Common.{◌≡◌, ℕ, ◌<◌, List, [], ◌∷◌, ◌++◌, length, Ok, Err, refl, sym, ap, subst, arith}
 use Rattle.std.specs.List.{AllByRecursion}
 use Rattle.sf_algebra.specs.Bounds.{HasSmallSize}
 use Rattle.sf_algebra.specs.Matrices.{Matrix, IsMatrix}
@@ -7,11 +7,10 @@ use Rattle.sf_algebra.specs.Rings.{IsOverField}
 use Rattle.sf_algebra.specs.Vectors.{Vector, IsVector}
 use Rattle.sf_algebra.proofs.Monomials.Weights.{field_ring}
 use Rattle.sf_groebner.specs.Small.{IsLarge}
-use Rattle.sf_matrix.specs.declared.basis.BaseFault.TheVariants.{Memory, Large}
-use Rattle.sf_matrix.specs.declared.basis.BaseFault.{BaseFault}
+use Rattle.sf_matrix.specs.declared.basis.BaseFault.TheVariants.{Large}
 use Rattle.sf_plans.specs.Plans.{Plan, answer, look, ask, bind, look_plan}
 use Rattle.sf_plans.specs.Questions.{Question, Answer, IsSensible, Holds}
-use Rattle.sf_plans.specs.Runs.{Run, IsRowless, IsFit, IsLookedAt, ends, stops, skips, looks, outgrows, refuses, asks, strays}
+use Rattle.sf_plans.specs.Runs.{Run, IsRowless, IsLookedAt, ends, skips, looks, outgrows, refuses, asks}
 use Rattle.sf_plans.proofs.WithoutRows.{graph_basis-no_rows}
 
 looked_at-rowless : (m : Matrix) → IsRowless m → IsLookedAt m []

@@ -1,5 +1,5 @@
 -- Two runs of a plan agree, the first of which came to its end.
-use Rattle.std.proofs.Common.{◌≡◌, ◌<◌, ℕ, List, [], ◌∷◌, ◌++◌, length, Result, Ok, Err, refl, sym, ap, subst, arith}
+use Rattle.std.proofs.Common.{◌≡◌, ◌<◌, ℕ, List, [], ◌∷◌, length, Result, Ok, Err, refl, sym, ap, subst, arith}
 use Rattle.sf_algebra.specs.Matrices.{Matrix}
 use Rattle.sf_algebra.specs.Vectors.{Vector}
 use Rattle.sf_algebra.proofs.Monomials.Weights.{field_ring}
@@ -10,8 +10,7 @@ use Rattle.sf_groebner.proofs.Uniqueness.UniqueBases.{unique_reduced}
 use Rattle.sf_matrix.specs.declared.basis.BaseFault.TheVariants.{Memory, Large}
 use Rattle.sf_matrix.specs.declared.basis.BaseFault.{BaseFault}
 use Rattle.sf_plans.specs.Plans.{Plan, answer, look, ask}
-use Rattle.sf_plans.specs.Questions.{Question, Answer}
-use Rattle.sf_plans.specs.Runs.{Run, IsRowless, IsFit, IsWhole, Agrees, large, ends, stops, skips, looks, outgrows, refuses, asks, strays}
+use Rattle.sf_plans.specs.Runs.{Run, IsRowless, IsFit, IsWhole, Agrees, ends, stops, skips, looks, outgrows, refuses, asks, strays}
 use Rattle.sf_plans.proofs.Answers.{answer_unique}
 
 pub same_elements : (limit : ℕ) (m : Matrix) → IsFit m → (es fs : List Vector) → IsSmall limit m es → IsSmall limit m fs

@@ -18,11 +18,13 @@ abbrev pub IsEntry : Table → ℕ → Matrix → List Vector → Type 0
 IsEntry t k m elements = slice_get t.entries k ≡ Some (record { matrix = m; found = Some (graph_of m elements) })
 
 -- one look: it finds the entry of m, or none where m has no rows, or the fault with which the look ends
-abbrev pub Looked : Table → Matrix → Result (Option ℕ) BaseFault → Table → Type 0
-Looked before m (Ok None) after = (m.rows ≡ []) × Meets before (look_plan m) (Ok []) after
-Looked before m (Ok (Some k)) after =
-    (elements : List Vector) × IsEntry after k m elements × Meets before (look_plan m) (Ok elements) after
-Looked before m (Err fault) after = Meets before (look_plan m) (Err fault) after
+pub data Looked (before : Table) (m : Matrix) : Result (Option ℕ) BaseFault → Table → Type 0 where
+  without_rows : {after : Table}
+      → m.rows ≡ [] → Meets before (look_plan m) (Ok []) after → Looked before m (Ok None) after
+  with_entry : {after : Table} {k : ℕ} (elements : List Vector)
+      → IsEntry after k m elements → Meets before (look_plan m) (Ok elements) after → Looked before m (Ok (Some k)) after
+  with_fault : {after : Table} {fault : BaseFault}
+      → Meets before (look_plan m) (Err fault) after → Looked before m (Err fault) after
 
 -- where a look at m found this, a later question may go on from it
 abbrev pub IsLookOf : Table → Matrix → Option ℕ → Type 0

@@ -1,5 +1,5 @@
 -- What holds of runs of plans: there is one, and only one. (This project's own.)
-use Rattle.std.specs.Prelude.{◌≡◌, ℕ, List, Result}
+use Rattle.std.specs.Prelude.{ℕ, List, Result}
 use Rattle.sf_algebra.specs.Matrices.{Matrix}
 use Rattle.sf_algebra.specs.Vectors.{Vector}
 use Rattle.sf_matrix.specs.declared.basis.BaseFault.{BaseFault}

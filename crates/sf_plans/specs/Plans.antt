@@ -1,6 +1,6 @@
 -- Plans: at which matrices a query looks, one after another, and what it asks. A plan goes on from what it was given so far. (This
 -- project's own.)
-use Rattle.std.specs.Prelude.{List, ◌∷◌}
+use Rattle.std.specs.Prelude.{List}
 use Rattle.sf_algebra.specs.Matrices.{Matrix}
 use Rattle.sf_algebra.specs.Vectors.{Vector}
 use Rattle.sf_plans.specs.Questions.{Question, Answer}
