@@ -9,7 +9,7 @@ use Rattle.sf_algebra.specs.Matrices.{Matrix, IsMatrix}
 use Rattle.sf_algebra.specs.Primes.{IsPrime}
 use Rattle.sf_algebra.specs.Rings.{Ring, Weights, IsPositive, IsOverField}
 use Rattle.sf_algebra.specs.Terms.{Term, IsDescending, IsNonzeroResidue}
-use Rattle.sf_algebra.specs.Vectors.{Place, Vector, IsVector, IsTermOfDegree, place_cmp, place_degree}
+use Rattle.sf_algebra.specs.Vectors.{Place, Vector, IsCanonicalRow, IsHomogeneous, IsTermOfDegree, IsVector, place_cmp, place_degree}
 use Rattle.sf_groebner.proofs.Basics.Decisions.{IsDecided, decide_both, decide_each, decide_from, decide_small_size}
 use Rattle.sf_plans.specs.Questions.{Question, IsSensible, kept, rest}
 use Rattle.sf_plans.specs.Runs.{IsRowless, IsFit}
@@ -55,11 +55,11 @@ decide_prime p =
 decide_positive : (w : Weights) → IsDecided (IsPositive w)
 decide_positive w =
     decide_from _ _
-    (λ h. record { first = h.0.0; second = h.0.1; third = h.1.0.0; fourth = h.1.0.1; fifth = h.1.1.0; sixth = h.1.1.1 })
-    (λ h. ((h.first, h.second), ((h.third, h.fourth), (h.fifth, h.sixth))))
-    (decide_both ((0 < w.w1) × (0 < w.w2)) (((0 < w.w3) × (0 < w.w4)) × ((0 < w.w5) × (0 < w.w6)))
-    (decide_both _ _ (decide_lt 0 w.w1) (decide_lt 0 w.w2))
-    (decide_both ((0 < w.w3) × (0 < w.w4)) ((0 < w.w5) × (0 < w.w6)) (decide_both _ _ (decide_lt 0 w.w3) (decide_lt 0 w.w4)) (decide_both _ _ (decide_lt 0 w.w5) (decide_lt 0 w.w6))))
+    (λ h. record { first = h.0.0; second = h.0.1; third = h.0.2; fourth = h.1.0; fifth = h.1.1; sixth = h.1.2 })
+    (λ h. ((h.first, h.second, h.third), (h.fourth, h.fifth, h.sixth)))
+    (decide_both ((0 < w.w1) × (0 < w.w2) × (0 < w.w3)) ((0 < w.w4) × (0 < w.w5) × (0 < w.w6))
+    (decide_three _ _ _ (decide_lt 0 w.w1) (decide_lt 0 w.w2) (decide_lt 0 w.w3))
+    (decide_three _ _ _ (decide_lt 0 w.w4) (decide_lt 0 w.w5) (decide_lt 0 w.w6)))
 
 pub decide_field : (ring : Ring) → IsDecided (IsOverField ring)
 decide_field ring =
@@ -78,15 +78,28 @@ decide_descending weights (t ∷ ts) =
     (decide_each (λ (u : Term Place). place_cmp weights u.at t.at ≡ Less) (λ u. decide_less (place_cmp weights u.at t.at)) ts)
     (decide_descending weights ts)
 
-decide_vector : (ring : Ring) (degrees : List ℤ) (v : Vector) → IsDecided (IsVector ring degrees v)
-decide_vector ring degrees v =
-    decide_from _ _
-    (λ h. record { canonical = record { descending = h.0.0; residues = h.0.1 }; homogeneous = h.1 })
-    (λ h. ((h.canonical.descending, h.canonical.residues), h.homogeneous))
-    (decide_both (IsDescending (place_cmp ring.weights) v.terms × AllByRecursion (IsNonzeroResidue ring.modulus) v.terms) (AllByRecursion (IsTermOfDegree ring.weights degrees v.degree) v.terms)
-    (decide_both _ _ (decide_descending ring.weights v.terms)
-    (decide_each (IsNonzeroResidue ring.modulus) (λ (t : Term Place). decide_both _ _ (decide_lt 0 t.coefficient) (decide_lt t.coefficient ring.modulus)) v.terms))
-    (decide_each (IsTermOfDegree ring.weights degrees v.degree) (λ (t : Term Place). decide_both _ _ (decide_lt t.at.position (length degrees)) (decide_same_degree v.degree (place_degree ring.weights degrees t.at))) v.terms))
+module _ (ring : Ring) where
+  decide_canonical : (ts : List (Term Place)) → IsDecided (IsCanonicalRow ring ts)
+  decide_canonical ts =
+      decide_from _ _ (λ h. record { descending = h.0; residues = h.1 }) (λ h. (h.descending, h.residues))
+      (decide_both (IsDescending (place_cmp ring.weights) ts) (AllByRecursion (IsNonzeroResidue ring.modulus) ts)
+      (decide_descending ring.weights ts)
+      (decide_each (IsNonzeroResidue ring.modulus) residue ts))
+    where
+      residue : (t : Term Place) → IsDecided (IsNonzeroResidue ring.modulus t)
+      residue t = decide_both _ _ (decide_lt 0 t.coefficient) (decide_lt t.coefficient ring.modulus)
+
+  decide_term : (degrees : List ℤ) (d : ℤ) (t : Term Place) → IsDecided (IsTermOfDegree ring.weights degrees d t)
+  decide_term degrees d t =
+      decide_both _ _ (decide_lt t.at.position (length degrees))
+      (decide_same_degree d (place_degree ring.weights degrees t.at))
+
+  decide_vector : (degrees : List ℤ) (v : Vector) → IsDecided (IsVector ring degrees v)
+  decide_vector degrees v =
+      decide_from _ _ (λ h. record { canonical = h.0; homogeneous = h.1 }) (λ h. (h.canonical, h.homogeneous))
+      (decide_both (IsCanonicalRow ring v.terms) (IsHomogeneous ring.weights degrees v.degree v.terms)
+      (decide_canonical v.terms)
+      (decide_each (IsTermOfDegree ring.weights degrees v.degree) (decide_term degrees v.degree) v.terms))
 
 decide_matrix : (m : Matrix) → IsDecided (IsMatrix m)
 decide_matrix m = decide_each (IsVector m.ring m.target) (decide_vector m.ring m.target) m.rows

@@ -38,14 +38,16 @@ pub run_unique : {A : Type 0} (limit : ℕ) (plan : Plan A) (ms ns : List Matrix
 run_unique limit (answer a) ms ns r s ends whole ends = (refl, refl)
 run_unique limit plan ms ns r s run whole stops = (ms, refl)
 run_unique limit plan ms ns r s stops whole other = absurd whole
-run_unique limit (look m next) ms ns r s (skips h run) whole (skips k other) = run_unique limit (next []) ms ns r s run whole other
+run_unique limit (look m next) ms ns r s (skips h run) whole (skips k other) =
+    run_unique limit (next []) ms ns r s run whole other
 run_unique limit (look m next) ms ns r s (skips h run) whole (looks fs fit small other) = absurd (rowless_fit m h fit)
 run_unique limit (look m next) ms ns r s (skips h run) whole (outgrows fit outgrown) = absurd (rowless_fit m h fit)
 run_unique limit (look m next) ms ns r s (skips h run) whole (refuses some_row unfit) = absurd (some_row h)
 run_unique limit (look m next) ms ns r s (looks es fit small run) whole (skips k other) = absurd (rowless_fit m k fit)
-run_unique limit (look m next) ms ns r s (looks {looked = ks} es fit small run) whole (looks {looked = ls} fs other_fit other_small other) =
+run_unique limit (look m next) ms ns r s (looks {looked = ks} es fit small run) whole (looks {looked = ls} fs also low other) =
+    let same = same_elements limit m fit es fs small low in
     Agrees-looked m ks ls r s
-    (run_unique limit (next es) ks ls r s run whole (subst (λ gs. Run limit (next gs) ls s) (sym (same_elements limit m fit es fs small other_small)) other))
+    (run_unique limit (next es) ks ls r s run whole (subst (λ gs. Run limit (next gs) ls s) (sym same) other))
 run_unique limit (look m next) ms ns r s (looks es fit small run) whole (outgrows other_fit outgrown) = absurd (outgrown es small)
 run_unique limit (look m next) ms ns r s (looks es fit small run) whole (refuses some_row unfit) = absurd (unfit fit)
 run_unique limit (look m next) ms ns r s (outgrows fit outgrown) whole (skips k other) = absurd (rowless_fit m k fit)

@@ -20,13 +20,12 @@ pub returns-in_err-k : goal.returns-in_err-k
 returns-in_err-k g c =
     let field = field_of c.args.m.now.ring c.modulus.result c.modulus.ensures.ring c.facts.ensures.prime in
     let p = err_from_is_err_and c.from_residual.result c.from_residual.ensures.1 in
-    record {
-      looked = rw (p.1, p.2) (looked_fails (g.B.Bases.table c.args.bases.now) c.args.m.now field c.rows.ensures.matrix (search rules) (search rules) (g.B.Bases.table c.open.new.self) _ c.in_err-k.ensures);
-    }
+    let fails = looked_fails _ c.args.m.now field c.rows.ensures.matrix (search rules) (search rules) _ _ c.in_err-k.ensures in
+    record { looked = rw (p.1, p.2) fails }
 
 pub returns : goal.returns
 returns g c =
     let field = field_of c.args.m.now.ring c.modulus.result c.modulus.ensures.ring c.facts.ensures.prime in
     record {
-      looked = looked_opened (g.B.Bases.table c.args.bases.now) c.args.m.now field c.rows.ensures.matrix (search rules) (search rules) (g.B.Bases.table c.open.new.self) _ c.in_ok-k.ensures;
+      looked = looked_opened _ c.args.m.now field c.rows.ensures.matrix (search rules) (search rules) _ _ c.in_ok-k.ensures;
     }

@@ -5,4 +5,10 @@ use Rattle.sf_plans.proofs.looks.reduced.Goals as goal
 pub returns-in_ok-copy-in-None : goal.returns-in_ok-copy-in-None
 returns-in_ok-copy-in-None g c =
     let field = field_of c.args.m.now.ring c.modulus.result c.modulus.ensures.ring c.facts.ensures.prime in
-    record { reduction = reduced_none (g.B.Bases.table c.args.bases.now) c.args.m.now field c.args.entry c.in-None.is c.requires.entry c.args.v.now c.requires.vector _ c.in_ok-copy-in-None.ensures.equal _ (search rules) }
+    let table = g.B.Bases.table c.args.bases.now in
+    let found = c.requires.entry in
+    let copied = c.in_ok-copy-in-None.ensures.equal in
+    record {
+      reduction = reduced_none table c.args.m.now field c.args.entry c.in-None.is found c.args.v.now
+          c.requires.vector _ copied _ (search rules);
+    }
