@@ -142,7 +142,7 @@ pub(crate) fn basis_facts(basis: &Matrix)
 }
 
 /// The sum that a vector is.
-fn sum_of(alloc: Global, modulus: Modulus, v: &Vector) -> Result<Sum, OutOfMemory>
+pub fn sum_of(alloc: Global, modulus: Modulus, v: &Vector) -> Result<Sum, OutOfMemory>
     requires canonical { IsCanonical (place_cmp ones) modulus v.now.terms }
     ensures sum { IfOk result (λ s. s ≡ record { modulus = modulus; degree = v.now.degree; terms = v.now.terms }) }
 {
