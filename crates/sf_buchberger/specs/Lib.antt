@@ -6,3 +6,4 @@ pub mod GrowthSteps
 pub mod Loops
 pub mod QueuedPairs
 pub mod Turns
+pub mod WholeBases

@@ -37,7 +37,7 @@ fn with_unit(alloc: Global, v: &Vector, position: u64) -> Result<Vector, OutOfMe
 }
 
 /// The free module of the graph: the target, and behind it the free module of the rows' degrees.
-fn graph_degrees(alloc: Global, m: &Matrix) -> Result<Free, OutOfMemory>
+pub(crate) fn graph_degrees(alloc: Global, m: &Matrix) -> Result<Free, OutOfMemory>
     ensures degrees { IfOk result (λ f. f.degrees ≡ graph_degrees m.now) }
 {
     let mut degrees = m.target().degrees.copy(alloc)?;

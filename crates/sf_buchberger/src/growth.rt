@@ -24,12 +24,12 @@ use std::alloc::Global;
 ///
 /// Generators and pairs of least degree come first, by the strategy's choice. The matrix is large exactly where a
 /// rest has a lead above the limit, or where a 4,097th row is found.
-pub(crate) fn grown_rows(
+pub(crate) fn grown_rows<S: Strategy>(
     alloc: Global,
     m: &Matrix,
     generators: &Matrix,
     limit: u32,
-    strategy: &mut Box<dyn Strategy>,
+    strategy: &mut S,
 ) -> Result<Matrix, BaseFault>
     requires generators { generators.now ≡ graph_matrix m.now }
     requires size { HasSmallSize m.now }
@@ -46,7 +46,7 @@ pub(crate) fn grown_rows(
 }
 
 /// Lets a strategy hear whether a division left no rest.
-fn tell(strategy: &mut Box<dyn Strategy>, outcome: Outcome) {
+fn tell<S: Strategy>(strategy: &mut S, outcome: Outcome) {
     match outcome {
         Outcome::Dropped => {}
         Outcome::Zero => strategy.told(true),

@@ -7,8 +7,10 @@ mod growth;
 mod parts;
 mod sorting;
 mod tails;
+mod whole;
 
-pub use basis::graph_basis;
+pub use basis::{graph_basis, graph_plain, whole_basis};
+pub use whole::GraphBasis;
 
 #[cfg(test)]
 mod tests;

@@ -14,6 +14,20 @@ pub trait Strategy: Drop {
     fn told(&mut self, zero: bool);
 }
 
+/// A boxed strategy chooses as the one in the box does.
+impl Strategy for Box<dyn Strategy> {
+    fn choose(&mut self, count: usize) -> usize
+        requires { 0 < count }
+        ensures { result < count }
+    {
+        (**self).choose(count)
+    }
+
+    fn told(&mut self, zero: bool) {
+        (**self).told(zero)
+    }
+}
+
 /// Takes the first pair.
 #[derive(Clone, Copy, Debug)]
 pub struct FirstStrategy;
