@@ -2,3 +2,4 @@ pub mod Places
 pub mod Bounds
 pub mod Columns
 pub mod Tables
+pub mod KeptNumbers

@@ -1,7 +1,11 @@
 ghost use Rattle.std.specs.Prelude.{◌≡◌, ◌<◌, ◌≤ℤ◌, length, Some, IfOk, IfSome, IsSome};
+ghost use Rattle.std.specs.List.{AllByRecursion};
 ghost use Rattle.sf_algebra.specs.Bounds.{HasSmallSize};
 ghost use Rattle.sf_algebra.specs.Vectors.{IsVector};
 ghost use Rattle.sf_groebner.specs.Reductions.{IsReduction};
+ghost use Rattle.sf_groebner.specs.Small.{IsSmallReducedBasis};
+ghost use Rattle.sf_groebner.specs.Spans.{InSpan};
+ghost use Rattle.sf_matrix.specs.KeptNumbers.{AreKeptNumbers, IsModerate, SpansInto};
 ghost use Rattle.sf_matrix.specs.Tables.{Table, Opened, GREATEST_REDUCED_DEGREE, graph_at, matrix_at};
 
 use crate::basis::{BaseFault, Graph};
@@ -37,4 +41,21 @@ pub trait Bases {
         requires vector { IfSome (matrix_at (table self.now) k) (λ m. IsVector m.ring m.target v.now) }
         requires room { v.now.degree ≤ℤ GREATEST_REDUCED_DEGREE }
         ensures reduction { IfOk result (λ d. IfSome (matrix_at (table self.now) k) (λ m. IsReduction m v.now d.0 d.1)) };
+
+    /// The numbers, counted from 0 and in order, of the rows of `cands` that aren't in the span of `base` and the earlier rows.
+    ///
+    /// The rows are a reduced basis within the table's limit. The table stays as it is.
+    fn minimal(
+        &mut self,
+        alloc: Global,
+        cands: &Matrix,
+        base: &Matrix,
+    ) -> Result<Vec<usize>, OutOfMemory>
+        requires small { IsSmallReducedBasis (table self.old).limit cands.now }
+        requires degrees { AllByRecursion IsModerate cands.now.target }
+        requires ring { base.now.ring ≡ cands.now.ring }
+        requires target { base.now.target ≡ cands.now.target }
+        requires inside { SpansInto base.now cands.now }
+        ensures same { table self.new ≡ table self.old }
+        ensures kept { IfOk result (λ ks. AreKeptNumbers (InSpan base.now) cands.now ks.items) };
 }
