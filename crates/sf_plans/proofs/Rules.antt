@@ -143,6 +143,16 @@ module _ {t u : Table} {m : Matrix} {o : Option ℕ} where
   looked_then {v} {n} {p} h k =
       let meets = (found u v n p k).meets in look_of-grown u v meets.looked m o meets.grown (looked_now h)
 
+  pub looked_grown : Looked t m (Ok o) u → (ms : List Matrix) × IsGrown t ms u
+  looked_grown h = let meets = (found t u m o h).meets in (meets.looked, meets.grown)
+
+  -- a graph that is read of a table that has grown since was there at once
+  pub graph_earlier : {v : Table} {k : ℕ} {graph : Graph} (ms : List Matrix) → o ≡ Some k → Looked t m (Ok o) u → IsGrown u ms v
+      → graph_at v k ≡ Some graph → graph_at u k ≡ Some graph
+  graph_earlier {v} {k} ms some h grown read =
+      let f = found_entry t u m k (subst (λ p. Looked t m (Ok p) u) some h) in
+      graph_at-entry u k m f.0 f.1 ∙ sym (graph_at-entry v k m f.0 (entry_stays u v ms grown k _ f.1)) ∙ read
+
   -- the matrix is one over a field
   pub looked_at : Looked t m (Ok o) u → (elements : List Vector) × IsLookedAt m elements
   looked_at h =
