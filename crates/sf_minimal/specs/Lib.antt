@@ -1,0 +1,4 @@
+pub mod Constants
+pub mod Pivots
+pub mod Steps
+pub mod Numbers

@@ -1,0 +1,11 @@
+//! Minimal generators of a span modulo another one, as the numbers of rows of its reduced basis.
+#![tactic(auto)]
+
+mod constants;
+mod degrees;
+mod facts;
+mod minimal;
+mod pivots;
+mod steps;
+
+pub use minimal::minimal_of;
