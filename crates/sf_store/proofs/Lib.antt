@@ -1,0 +1,4 @@
+pub mod GraphRests
+pub mod RestsOfBases
+pub mod Entries
+pub mod Openings
