@@ -6,7 +6,7 @@ use Rattle.std.proofs.lemmas.Option.{slice_get-map}
 use Rattle.sf_algebra.specs.Matrices.{Matrix}
 use Rattle.sf_algebra.proofs.GradedMatrices.Equality.{same_matrix, Decides-same_matrix}
 use Rattle.sf_groebner.specs.Small.{IsLarge, IsSmall}
-use Rattle.sf_matrix.specs.Tables.{Entry, IsGrown, Opened, Table, graph_of, is_among, matrices_of}
+use Rattle.sf_matrix.specs.Tables.{Entry, IsGrown, IsOpened, Opened, Table, graph_of, is_among, matrices_of, matrix_at}
 use Rattle.sf_matrix.specs.declared.basis.BaseFault.TheVariants.{Memory, Large}
 use Rattle.sf_matrix.specs.declared.basis.BaseFault.{BaseFault}
 use Rattle.sf_store.specs.Looks.{HasEntered, Tells}
@@ -107,3 +107,7 @@ Opened-entered t u m k r missing h last tells =
     (slice_get-map (λ (e : Entry). e.matrix) u.entries k
     ∙ ap (option_map (λ (e : Entry). e.matrix)) (slice_get-entered t u m k h last))
     tells
+
+-- the matrix of the entry that was opened
+pub matrix_at-opened : (t : Table) (k : ℕ) (m : Matrix) → IsOpened t k m → matrix_at t k ≡ Some m
+matrix_at-opened t k m h = ap (option_map (λ (e : Entry). e.matrix)) h.entry

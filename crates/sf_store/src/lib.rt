@@ -9,3 +9,6 @@ mod store;
 
 pub use plain::PlainBases;
 pub use store::Store;
+
+#[cfg(test)]
+mod tests;

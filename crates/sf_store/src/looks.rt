@@ -1,5 +1,4 @@
-ghost use Rattle.std.specs.Prelude.{◌≡◌, ◌≤◌, ◌<◌, ◌+◌, ◌≤ℤ◌, [], ◌∷◌, ◌++◌, false, length, map, Some, Ok, Err, IfOk, IfSome, IsSome, IsNone, OnOk, OnErr, MatchResult, slice_get};
-ghost use Rattle.sf_algebra.specs.Bounds.{HasSmallSize};
+ghost use Rattle.std.specs.Prelude.{◌≡◌, ◌≤◌, ◌<◌, ◌+◌, ◌≤ℤ◌, [], false, length, map, Some, IfOk, IfSome, IsSome, IsNone, OnOk, OnErr, slice_get};
 ghost use Rattle.sf_algebra.specs.Vectors.{IsVector};
 ghost use Rattle.sf_groebner.specs.Reductions.{IsReduction};
 ghost use Rattle.sf_matrix.specs.Tables.{GREATEST_REDUCED_DEGREE, IsTable, Opened, graph_at, is_among, matrices_of, matrix_at};

@@ -1,7 +1,5 @@
-ghost use Rattle.std.specs.Prelude.{◌≡◌, ◌≤◌, ◌≤ℤ◌, [], length, Some, IfOk, IfSome, IsSome};
-ghost use Rattle.sf_algebra.specs.Vectors.{IsVector};
-ghost use Rattle.sf_groebner.specs.Reductions.{IsReduction};
-ghost use Rattle.sf_matrix.specs.Tables.{GREATEST_REDUCED_DEGREE, IsTable, Opened, graph_at, matrix_at};
+ghost use Rattle.std.specs.Prelude.{◌≡◌, ◌≤◌, [], length};
+ghost use Rattle.sf_matrix.specs.Tables.{IsTable};
 
 use crate::looks::Looks;
 use sf_field::OutOfMemory;
