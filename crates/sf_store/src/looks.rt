@@ -1,6 +1,10 @@
 ghost use Rattle.std.specs.Prelude.{◌≡◌, ◌≤◌, ◌<◌, ◌+◌, ◌≤ℤ◌, [], false, length, map, Some, IfOk, IfSome, IsSome, IsNone, OnOk, OnErr, slice_get};
+ghost use Rattle.std.specs.List.{AllByRecursion};
 ghost use Rattle.sf_algebra.specs.Vectors.{IsVector};
 ghost use Rattle.sf_groebner.specs.Reductions.{IsReduction};
+ghost use Rattle.sf_groebner.specs.Small.{IsSmallReducedBasis};
+ghost use Rattle.sf_groebner.specs.Spans.{InSpan};
+ghost use Rattle.sf_matrix.specs.KeptNumbers.{AreKeptNumbers, IsModerate, SpansInto};
 ghost use Rattle.sf_matrix.specs.Tables.{GREATEST_REDUCED_DEGREE, IsTable, Opened, graph_at, is_among, matrices_of, matrix_at};
 ghost use Rattle.sf_store.specs.Looks.{HasEntered, IsFoundBasis, Tells, entry_of};
 
@@ -9,6 +13,7 @@ use crate::reduction::reduction;
 use sf_buchberger::{GraphBasis, whole_basis};
 use sf_field::{Copied, OutOfMemory};
 use sf_matrix::{BaseFault, Graph, Matrix, Vector};
+use sf_minimal::minimal_of;
 use sf_pairs::{Strategy, Ticks};
 use std::alloc::Global;
 use std::marker::Model;
@@ -65,6 +70,24 @@ impl Looks {
         ensures greatest { result ≤ 60 }
     {
         self.limit
+    }
+
+    /// The numbers of the rows of `cands` that aren't in the span of `base` and the earlier rows.
+    pub(crate) fn minimal(
+        &self,
+        alloc: Global,
+        cands: &Matrix,
+        base: &Matrix,
+    ) -> Result<Vec<usize>, OutOfMemory>
+        requires small { IsSmallReducedBasis self.now.limit cands.now }
+        requires degrees { AllByRecursion IsModerate cands.now.target }
+        requires ring { base.now.ring ≡ cands.now.ring }
+        requires target { base.now.target ≡ cands.now.target }
+        requires inside { SpansInto base.now cands.now }
+        ensures kept { IfOk result (λ ks. AreKeptNumbers (InSpan base.now) cands.now ks.items) }
+    {
+        let _limit = self.limit();
+        minimal_of(alloc, cands, base)
     }
 
     /// The number of matrices.

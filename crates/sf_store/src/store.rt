@@ -86,4 +86,13 @@ impl Bases for Store {
     fn reduce(&self, alloc: Global, k: usize, v: &Vector) -> Result<(Vector, Vector), OutOfMemory> {
         self.looks.reduce(alloc, k, v)
     }
+
+    fn minimal(
+        &mut self,
+        alloc: Global,
+        cands: &Matrix,
+        base: &Matrix,
+    ) -> Result<Vec<usize>, OutOfMemory> {
+        self.looks.minimal(alloc, cands, base)
+    }
 }
