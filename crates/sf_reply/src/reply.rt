@@ -31,6 +31,10 @@ pub enum Reply<'a> {
     Module(Presented<'a>),
     /// The basis that was asked for, as rows over the module's generators.
     Basis(Presented<'a>),
+    /// The syzygies of a module's relations, as rows over the free module of their degrees.
+    Syz(Presented<'a>),
     /// Whether the vector is in the span.
     Member(bool),
+    /// The lift that was asked for, as the one row of a matrix over the free module of the relations' degrees.
+    Lift(Presented<'a>),
 }

@@ -34,6 +34,7 @@ fn replies(rt: HostRuntime) -> Result<(), Fail> {
         (Reply::Member(true), "member yes\n"),
         (Reply::Member(false), "member no\n"),
         (Reply::Refused(Refusal::Degree(12)), "error degree 12\n"),
+        (Reply::Refused(Refusal::NotInSpan), "error none\n"),
     ];
     for (reply, written) in table {
         assert_eq!(rt; reply_text(alloc, &reply)?.as_slice(), written.as_bytes());

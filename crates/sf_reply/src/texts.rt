@@ -1,5 +1,5 @@
 ghost use Rattle.std.specs.Prelude.{◌≡◌, IfOk};
-ghost use Rattle.sf_reply.specs.Texts.{name_text, degree_text, large_text, refusal_text, module_text, basis_text, reply_text};
+ghost use Rattle.sf_reply.specs.Texts.{name_text, degree_text, large_text, refusal_text, module_text, rows_text, reply_text};
 
 use crate::reply::{Presented, Reply};
 use itoa::Buffer;
@@ -17,10 +17,12 @@ pub fn reply_text(alloc: Global, reply: &Reply<'_>) -> Result<Vec<u8>, OutOfMemo
         Reply::Accepted => Ok(Vec::from_slice(alloc, b"ok\n")?),
         Reply::Malformed => Ok(Vec::from_slice(alloc, b"error syntax 0\n")?),
         Reply::Refused(refusal) => refusal_text(alloc, refusal),
-        Reply::Module(module) => module_text(alloc, module),
-        Reply::Basis(basis) => basis_text(alloc, basis),
+        Reply::Module(presented) => module_text(alloc, presented),
+        Reply::Basis(basis) => rows_text(alloc, b"basis ", basis),
+        Reply::Syz(syzygies) => rows_text(alloc, b"syz ", syzygies),
         Reply::Member(true) => Ok(Vec::from_slice(alloc, b"member yes\n")?),
         Reply::Member(false) => Ok(Vec::from_slice(alloc, b"member no\n")?),
+        Reply::Lift(lift) => rows_text(alloc, b"lift ", lift),
     }
 }
 
@@ -36,6 +38,7 @@ pub fn refusal_text(alloc: Global, refusal: &Refusal) -> Result<Vec<u8>, OutOfMe
         Refusal::Shape => Ok(Vec::from_slice(alloc, b"error shape\n")?),
         Refusal::Degree(row) => degree_text(alloc, *row),
         Refusal::Range => Ok(Vec::from_slice(alloc, b"error range\n")?),
+        Refusal::NotInSpan => Ok(Vec::from_slice(alloc, b"error none\n")?),
         Refusal::Large { rows, cols } => large_text(alloc, *rows, *cols),
     }
 }
@@ -72,11 +75,12 @@ fn degree_text(alloc: Global, row: u64) -> Result<Vec<u8>, OutOfMemory>
     Ok(text)
 }
 
-fn basis_text(alloc: Global, basis: &Presented<'_>) -> Result<Vec<u8>, OutOfMemory>
-    ensures { IfOk result (λ text. text.items ≡ basis_text basis.now) }
+/// A matrix behind these words.
+fn rows_text(alloc: Global, words: &[u8], rows: &Presented<'_>) -> Result<Vec<u8>, OutOfMemory>
+    ensures { IfOk result (λ text. text.items ≡ rows_text words.now rows.now) }
 {
-    let mut text = Vec::from_slice(alloc, b"basis ")?;
-    print_matrix(&mut text, basis.names, basis.relations)?;
+    let mut text = Vec::from_slice(alloc, words)?;
+    print_matrix(&mut text, rows.names, rows.relations)?;
     text.push(b'\n')?;
     Ok(text)
 }

@@ -6,8 +6,9 @@ use Rattle.std.specs.Str.{bytes_eq}
 use Rattle.sf_text.specs.MatrixText.{matrix_written}
 use Rattle.sf_text.specs.Placed.{is_written_degree}
 use Rattle.sf_text.specs.Unknowns.{◌>>=◌}
+use Rattle.sf_text.specs.declared.raw.RawMatrix.{RawMatrix}
 use Rattle.sf_text.specs.Words.{words, begins_with, is_space, is_name, is_number, number_value, is_integer, integer_value}
-use Rattle.sf_script.specs.declared.command.Command.TheVariants.{Spectral, Ring, Limit, Module, Show, Basis, Member, Later}
+use Rattle.sf_script.specs.declared.command.Command.TheVariants.{Spectral, Ring, Limit, Module, Show, Basis, Syz, Member, Lift, Later}
 use Rattle.sf_script.specs.declared.command.Command.{Command}
 use Rattle.sf_script.specs.declared.command.Line.TheVariants.{Silent, Malformed, Read}
 use Rattle.sf_script.specs.declared.command.Line.{Line}
@@ -47,21 +48,37 @@ ring_command (number ∷ name ∷ names) =
     if is_number number && list_all is_name (name ∷ names) then Some
     (Ring (number_value number) (name ∷ names)) else None
 
--- show NAME
-abbrev pub show_command : List (List ℕ) → Option Command
-show_command arguments = option_and_then (λ name. if is_name name then Some (Show name) else None) (only arguments)
+-- NAME
+abbrev pub name_argument : List (List ℕ) → Option (List ℕ)
+name_argument arguments = option_and_then (λ name. if is_name name then Some name else None) (only arguments)
 
--- basis NAME
-abbrev pub basis_command : List (List ℕ) → Option Command
-basis_command arguments = option_and_then (λ name. if is_name name then Some (Basis name) else None) (only arguments)
-
--- member NAME MATRIX
-abbrev pub member_command : List (List ℕ) → Option Command
-member_command arguments = do
+-- NAME MATRIX
+abbrev pub vector_arguments : List (List ℕ) → Option (List ℕ × RawMatrix)
+vector_arguments arguments = do
   named ← first arguments
   text ← only named.1
   vector ← matrix_written text
-  if is_name named.0 then Some (Member named.0 vector) else None
+  if is_name named.0 then Some (named.0, vector) else None
+
+-- show NAME
+abbrev pub show_command : List (List ℕ) → Option Command
+show_command arguments = option_map Show (name_argument arguments)
+
+-- basis NAME
+abbrev pub basis_command : List (List ℕ) → Option Command
+basis_command arguments = option_map Basis (name_argument arguments)
+
+-- syz NAME
+abbrev pub syz_command : List (List ℕ) → Option Command
+syz_command arguments = option_map Syz (name_argument arguments)
+
+-- member NAME MATRIX
+abbrev pub member_command : List (List ℕ) → Option Command
+member_command arguments = option_map (λ p. Member p.0 p.1) (vector_arguments arguments)
+
+-- lift NAME MATRIX
+abbrev pub lift_command : List (List ℕ) → Option Command
+lift_command arguments = option_map (λ p. Lift p.0 p.1) (vector_arguments arguments)
 
 -- the integers up to the word `relations`, and the words after it
 abbrev pub degrees_and_rest : List (List ℕ) → Option (List ℤ × List (List ℕ))
@@ -84,8 +101,8 @@ module_command arguments = do
 abbrev pub later_words : List (List ℕ)
 later_words =
     codes "map" ∷ codes "complex" ∷ codes "bicomplex" ∷ codes "at" ∷ codes "dh" ∷ codes "dv"
-    ∷ codes "seal" ∷ codes "let" ∷ codes "syz" ∷ codes "lift" ∷ codes "kernel" ∷ codes "image"
-    ∷ codes "coker" ∷ codes "resolve" ∷ codes "hom" ∷ codes "tensor" ∷ codes "ext" ∷ codes "tor"
+    ∷ codes "seal" ∷ codes "let" ∷ codes "kernel" ∷ codes "image" ∷ codes "coker" ∷ codes "resolve"
+    ∷ codes "hom" ∷ codes "tensor" ∷ codes "ext" ∷ codes "tor"
     ∷ codes "page" ∷ codes "diff" ∷ codes "next" ∷ codes "total" ∷ codes "filtration" ∷ codes "purity"
     ∷ codes "witness" ∷ codes "work" ∷ codes "balance" ∷ codes "connect" ∷ codes "hyper" ∷ []
 
@@ -103,7 +120,9 @@ named_command word arguments =
     else (if bytes_eq word (codes "limit") then limit_command arguments
     else (if bytes_eq word (codes "show") then show_command arguments
     else (if bytes_eq word (codes "basis") then basis_command arguments
-    else (if bytes_eq word (codes "member") then member_command arguments else None)))))))
+    else (if bytes_eq word (codes "syz") then syz_command arguments
+    else (if bytes_eq word (codes "member") then member_command arguments
+    else (if bytes_eq word (codes "lift") then lift_command arguments else None)))))))))
 
 -- the command of a line's words, if they are in the grammar
 abbrev pub command_of : List (List ℕ) → Option Command
@@ -122,7 +141,9 @@ IsWritten (Module name degrees relations) = IsTrue (list_all is_written_degree d
 IsWritten (Limit limit) = Unit {0}
 IsWritten (Show name) = Unit {0}
 IsWritten (Basis name) = Unit {0}
+IsWritten (Syz name) = Unit {0}
 IsWritten (Member name vector) = Unit {0}
+IsWritten (Lift name vector) = Unit {0}
 IsWritten Later = Unit {0}
 
 -- so it is with a line's command

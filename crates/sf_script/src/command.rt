@@ -30,8 +30,17 @@ pub enum Command {
     Basis {
         name: Name,
     },
+    /// The reduced basis of the syzygies of a module's relations.
+    Syz {
+        name: Name,
+    },
     /// Whether a vector over a module's generators, which a matrix of one row writes, is in the span of its relations.
     Member {
+        name: Name,
+        vector: RawMatrix,
+    },
+    /// The coefficients by which such a vector is a combination of the relations.
+    Lift {
         name: Name,
         vector: RawMatrix,
     },

@@ -3,17 +3,19 @@ ghost use Rattle.std.specs.List.{list_all, list_any};
 ghost use Rattle.std.specs.Option.{option_map};
 ghost use Rattle.std.specs.Str.{bytes_eq};
 ghost use Rattle.sf_text.specs.Words.{words, is_space, is_name};
-ghost use Rattle.sf_script.specs.Grammar.{later_words, is_later_word, is_silent, command_of, line_of, only, first, after, spectral_command, ring_command, limit_command, show_command, basis_command, member_command, module_command, degrees_and_rest, IsWritten, HasWrittenCommand};
+ghost use Rattle.sf_script.specs.Grammar.{later_words, is_later_word, is_silent, command_of, line_of, only, first, after, name_argument, vector_arguments, spectral_command, ring_command, limit_command, module_command, degrees_and_rest, IsWritten, HasWrittenCommand};
 ghost use Rattle.sf_text.specs.Placed.{is_written_degree};
 
 use crate::command::{Command, Line};
 use sf_field::OutOfMemory;
 use sf_matrix::{List, Name};
-use sf_text::{begins_with, is_name, make_name, next_word, read_integer, read_matrix, read_number};
+use sf_text::{
+    RawMatrix, begins_with, is_name, make_name, next_word, read_integer, read_matrix, read_number,
+};
 use std::alloc::Global;
 
 /// The command words that the language has and that aren't built yet.
-const LATER_WORDS: [&[u8]; 29] = [
+const LATER_WORDS: [&[u8]; 27] = [
     b"map",
     b"complex",
     b"bicomplex",
@@ -22,8 +24,6 @@ const LATER_WORDS: [&[u8]; 29] = [
     b"dv",
     b"seal",
     b"let",
-    b"syz",
-    b"lift",
     b"kernel",
     b"image",
     b"coker",
@@ -97,13 +97,21 @@ fn read_command(alloc: Global, line: &[u8]) -> Result<Option<Command>, OutOfMemo
         return Ok(read_limit(arguments));
     }
     if word == b"show".as_slice() {
-        return read_show(alloc, arguments);
+        return Ok(read_name(alloc, arguments)?.map(|name| Command::Show { name }));
     }
     if word == b"basis".as_slice() {
-        return read_basis(alloc, arguments);
+        return Ok(read_name(alloc, arguments)?.map(|name| Command::Basis { name }));
+    }
+    if word == b"syz".as_slice() {
+        return Ok(read_name(alloc, arguments)?.map(|name| Command::Syz { name }));
     }
     if word == b"member".as_slice() {
-        return read_member(alloc, arguments);
+        let given = read_vector(alloc, arguments)?;
+        return Ok(given.map(|(name, vector)| Command::Member { name, vector }));
+    }
+    if word == b"lift".as_slice() {
+        let given = read_vector(alloc, arguments)?;
+        return Ok(given.map(|(name, vector)| Command::Lift { name, vector }));
     }
     Ok(None)
 }
@@ -161,32 +169,19 @@ fn read_ring(alloc: Global, arguments: &[u8]) -> Result<Option<Command>, OutOfMe
     }
 }
 
-fn read_show(alloc: Global, arguments: &[u8]) -> Result<Option<Command>, OutOfMemory>
-    ensures { IfOk result (λ r. r ≡ show_command (words arguments.now)) }
+/// The one argument of a command, where it is a name.
+fn read_name(alloc: Global, arguments: &[u8]) -> Result<Option<Name>, OutOfMemory>
+    ensures { IfOk result (λ r. r ≡ name_argument (words arguments.now)) }
 {
     match only_word(arguments) {
-        Some(word) if is_name(word) => {
-            let name = make_name(alloc, word)?;
-            Ok(Some(Command::Show { name }))
-        }
+        Some(word) if is_name(word) => Ok(Some(make_name(alloc, word)?)),
         _ => Ok(None),
     }
 }
 
-fn read_basis(alloc: Global, arguments: &[u8]) -> Result<Option<Command>, OutOfMemory>
-    ensures { IfOk result (λ r. r ≡ basis_command (words arguments.now)) }
-{
-    match only_word(arguments) {
-        Some(word) if is_name(word) => {
-            let name = make_name(alloc, word)?;
-            Ok(Some(Command::Basis { name }))
-        }
-        _ => Ok(None),
-    }
-}
-
-fn read_member(alloc: Global, arguments: &[u8]) -> Result<Option<Command>, OutOfMemory>
-    ensures { IfOk result (λ r. r ≡ member_command (words arguments.now)) }
+/// The two arguments of a command, where they are a name and a matrix.
+fn read_vector(alloc: Global, arguments: &[u8]) -> Result<Option<(Name, RawMatrix)>, OutOfMemory>
+    ensures { IfOk result (λ r. r ≡ vector_arguments (words arguments.now)) }
 {
     let Some((name, rest)) = next_word(arguments) else {
         return Ok(None);
@@ -201,7 +196,7 @@ fn read_member(alloc: Global, arguments: &[u8]) -> Result<Option<Command>, OutOf
         return Ok(None);
     }
     let name = make_name(alloc, name)?;
-    Ok(Some(Command::Member { name, vector }))
+    Ok(Some((name, vector)))
 }
 
 fn read_module(alloc: Global, arguments: &[u8]) -> Result<Option<Command>, OutOfMemory>

@@ -17,6 +17,8 @@ pub enum Refusal {
     Degree(u64),
     /// A degree or a limit is out of its range.
     Range,
+    /// The vector isn't in the span.
+    NotInSpan,
     /// The matrix that is looked at, with so many rows and columns, isn't small for the limit.
     Large { rows: u64, cols: u64 },
 }

@@ -16,7 +16,7 @@ fn lines(rt: HostRuntime) -> Result<(), Fail> {
     let alloc = rt.alloc();
     assert!(rt; matches!(read_line(alloc, b"# note")?, Line::Silent));
     assert!(rt; matches!(read_line(alloc, b"ring 101")?, Line::Malformed));
-    assert!(rt; matches!(read_line(alloc, b"syz K")?, Line::Read(Command::Later)));
+    assert!(rt; matches!(read_line(alloc, b"ext 1 K K")?, Line::Read(Command::Later)));
     assert!(rt;
         matches!(
             read_line(alloc, b"spectral -3")?,

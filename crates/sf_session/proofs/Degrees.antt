@@ -1,5 +1,5 @@
 -- Degrees that generators may be given, and those of written vectors over them: all have room.
-use Rattle.std.proofs.Common.{◌≡◌, ℕ, zero, suc, ◌+◌, ◌≤◌, true, List, [], ◌∷◌, Ok, sym, ◌∙◌, ap, subst, arith, ℤ, pos, neg_ℤ, ◌+ℤ◌, ◌≤ℤ◌, int_le}
+use Rattle.std.proofs.Common.{◌≡◌, ℕ, zero, suc, ◌≤◌, true, List, [], ◌∷◌, Ok, sym, ◌∙◌, ap, subst, arith, ℤ, pos, neg_ℤ, ◌+ℤ◌, ◌≤ℤ◌, int_le}
 use Rattle.std.proofs.lemmas.Bool.{and_from, and_parts}
 use Rattle.std.proofs.lemmas.Int.{ints}
 use Rattle.std.specs.List.{AllByRecursion, list_all}
@@ -7,7 +7,7 @@ use Rattle.sf_algebra.specs.Monomials.{Monomial, exponent_sum, monomial_degree}
 use Rattle.sf_algebra.specs.Rings.{ones}
 use Rattle.sf_algebra.specs.Terms.{Term}
 use Rattle.sf_algebra.specs.Vectors.{Place, Vector, generator_degree, row_degree}
-use Rattle.sf_matrix.specs.Bounds.{DegreeFits}
+use Rattle.sf_matrix.specs.Tables.{GREATEST_REDUCED_DEGREE}
 use Rattle.sf_text.specs.Placed.{GREATEST_WRITTEN_SUM, IsWrittenTerm, first_row, is_written_degree, row_vector}
 use Rattle.sf_text.specs.Raw.{RawTerm}
 use Rattle.sf_text.specs.declared.ring.Ring.{Ring}
@@ -55,22 +55,15 @@ row_degree-high degrees (t ∷ ts) e h =
     high : (g : ℤ) (n : ℕ) → g ≤ℤ pos 2000 → n ≤ GREATEST_WRITTEN_SUM → (g +ℤ pos n) ≤ℤ pos 37964
     high g n hg hn = omega (arith, ints)
 
-fits : (d : ℤ) (degrees : List ℤ) → list_all is_degree degrees ≡ true → d ≤ℤ pos 37964 → DegreeFits degrees d
-fits d [] e h = tt
-fits d (f ∷ fs) e h =
-    let both = and_parts (is_degree f) (list_all is_degree fs) e in
-    (above f (degree_bounds f both.0).0, fits d fs both.1 h)
-  where
-    above : (f : ℤ) → neg_ℤ (pos 2000) ≤ℤ f → d ≤ℤ (f +ℤ pos 65535)
-    above f low = omega (arith, ints)
-
 -- a vector that is given has room
-pub given_fits : (ring : Ring) (degrees : List ℤ) (rows : List (List (List RawTerm))) (v : Vector)
+pub given_degree : (ring : Ring) (degrees : List ℤ) (rows : List (List (List RawTerm))) (v : Vector)
     → vector_given ring degrees rows ≡ Ok v → list_all is_degree degrees ≡ true → AllByRecursion IsWrittenTerm v.terms
-    → DegreeFits degrees v.degree
-given_fits ring degrees rows v e small written =
+    → v.degree ≤ℤ GREATEST_REDUCED_DEGREE
+given_degree ring degrees rows v e small written =
     let offered : row_vector ring degrees (first_row rows) ≡ v = given_is_offered ring degrees rows v e in
     let degree : row_degree ones degrees v.terms ≡ v.degree =
     ap (λ (w : Vector). row_degree ones degrees w.terms) (sym offered) ∙ ap (λ (w : Vector). w.degree) offered in
-    subst (DegreeFits degrees) degree
-    (fits (row_degree ones degrees v.terms) degrees small (row_degree-high degrees v.terms small written))
+    low v.degree (subst (λ (d : ℤ). d ≤ℤ pos 37964) degree (row_degree-high degrees v.terms small written))
+  where
+    low : (d : ℤ) → d ≤ℤ pos 37964 → d ≤ℤ GREATEST_REDUCED_DEGREE
+    low d le = omega (arith, ints)

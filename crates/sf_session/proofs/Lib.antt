@@ -2,11 +2,12 @@ pub mod Modules
 pub mod Variables
 pub mod Placed
 pub mod Sound
-pub mod OneLook
+pub mod TaskAnswers
+pub mod TaskSteps
 pub mod SoFar
 pub mod OneReply
 pub mod OneOutput
-pub mod Found
 pub mod Degrees
-pub mod Membership
+pub mod FoundModules
+pub mod Tellings
 pub mod Kept

@@ -6,18 +6,15 @@ use Rattle.sf_session.specs.Scripts.{Answers, IsReply}
 use Rattle.sf_session.specs.State.{State, start}
 use Rattle.sf_text.specs.Words.{script_lines}
 use Rattle.sf_session.proofs.OneReply.{IsOne, IsOne-Step}
-use Rattle.sf_session.proofs.Sound.{IsSound, IsSound-start}
 
-pub IsOne-Answers : (old : State) (lines : List (List ℕ)) → IsSound old → IsOne (Answers old lines)
-IsOne-Answers old [] sound =
-    record { reply = []; state = old; sound = sound; met = (refl, refl); only = λ other new h. h }
-IsOne-Answers old (line ∷ lines) sound =
-    let first = IsOne-Step old line sound in
-    let others = IsOne-Answers first.state lines first.sound in
+pub IsOne-Answers : (old : State) (lines : List (List ℕ)) → IsOne (Answers old lines)
+IsOne-Answers old [] = record { reply = []; state = old; met = (refl, refl); only = λ other new h. h }
+IsOne-Answers old (line ∷ lines) =
+    let first = IsOne-Step old line in
+    let others = IsOne-Answers first.state lines in
     record {
       reply = first.reply ++ others.reply;
       state = others.state;
-      sound = others.sound;
       met = (first.reply, others.reply, first.state, first.met, others.met, refl);
       only = λ out new h.
           let same = first.only h.0 h.2 h.3 in
@@ -27,8 +24,8 @@ IsOne-Answers old (line ∷ lines) sound =
 
 pub one_reply : HasOneReply
 one_reply earlier line =
-    let before = IsOne-Answers start earlier IsSound-start in
-    let step = IsOne-Step before.state line before.sound in
+    let before = IsOne-Answers start earlier in
+    let step = IsOne-Step before.state line in
     let met : IsReply earlier line step.reply = (before.reply, before.state, step.state, before.met, step.met) in
     let only : (reply : List ℕ) → IsReply earlier line reply → reply ≡ step.reply = λ reply h.
     (step.only reply h.2 (subst (λ (s : State). Step s line reply h.2) (before.only h.0 h.1 h.3).1 h.4)).0 in
@@ -36,14 +33,8 @@ one_reply earlier line =
 
 pub one_output : HasOneOutput
 one_output script =
-    let all = IsOne-Answers start (script_lines script) IsSound-start in
+    let all = IsOne-Answers start (script_lines script) in
     ((all.reply, (all.state, all.met)), λ out other h k. (all.only out h.0 h.1).0 ∙ sym (all.only other k.0 k.1).0)
-
--- the state that lines leave is sound
-reached : (new : State) (lines : List (List ℕ)) (out : List ℕ) → Answers start lines out new → IsSound new
-reached new lines out h =
-    let all = IsOne-Answers start lines IsSound-start in
-    subst IsSound (sym (all.only out new h).1) all.sound
 
 -- answers to some lines and then to others are answers to all
 pub Answers-append : (old mid new : State) (lines others : List (List ℕ)) (out more : List ℕ)
@@ -57,9 +48,9 @@ Answers-append old mid new (line ∷ lines) others out more h k =
 pub front_begins_output : FrontBeginsOutput
 front_begins_output script front out h k =
     let cut = h.1 in
-    let rest = IsOne-Answers cut.2 cut.1 (reached cut.2 cut.0 (front ++ h.0) cut.4) in
+    let rest = IsOne-Answers cut.2 cut.1 in
     let whole = Answers-append start cut.2 rest.state cut.0 cut.1 (front ++ h.0) rest.reply cut.4 rest.met in
-    let all = IsOne-Answers start (script_lines script) IsSound-start in
+    let all = IsOne-Answers start (script_lines script) in
     let ours =
     all.only ((front ++ h.0) ++ rest.reply) rest.state
     (subst (λ ls. Answers start ls ((front ++ h.0) ++ rest.reply) rest.state) (sym cut.3) whole) in

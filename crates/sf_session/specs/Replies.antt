@@ -1,23 +1,28 @@
 -- The reply to each line. It is a relation between the state before the line, the line, its reply and the state after it.
-use Rattle.std.specs.Prelude.{◌≡◌, ℕ, true, false, List, [], ◌∷◌, ◌++◌, length, MatchOption, MatchResult}
+use Rattle.std.specs.Prelude.{◌≡◌, ℕ, List, [], ◌∷◌, ◌++◌, Some, None, Result, Ok, Err, MatchOption, MatchResult}
 use Rattle.std.specs.Bool.{MatchBool}
-use Rattle.sf_algebra.specs.Matrices.{Matrix}
-use Rattle.sf_groebner.specs.Spans.{InSpan}
+use Rattle.sf_algebra.specs.Matrices.{Matrix, row_degrees}
+use Rattle.sf_groebner.specs.MinimalGenerators.{matrix_of}
+use Rattle.sf_matrix.specs.declared.basis.BaseFault.TheVariants as faults
+use Rattle.sf_matrix.specs.declared.basis.BaseFault.TheVariants.{Memory}
+use Rattle.sf_matrix.specs.declared.basis.BaseFault.{BaseFault}
+use Rattle.sf_plans.specs.Runs.{Run}
 use Rattle.sf_script.specs.Grammar.{line_of}
-use Rattle.sf_script.specs.Headings.{ring_of, setting_of, opens, enters, ring_entered, limited}
-use Rattle.sf_script.specs.Refusals.{module_named, definition, vector_given}
-use Rattle.sf_script.specs.declared.command.Command.TheVariants.{Spectral, Ring, Limit, Module, Show, Basis, Member, Later}
+use Rattle.sf_script.specs.Headings.{ring_of, opens, enters, ring_entered, limited}
+use Rattle.sf_script.specs.Refusals.{module_named, definition}
+use Rattle.sf_script.specs.declared.command.Command.TheVariants.{Spectral, Ring, Limit, Module, Show, Basis, Syz, Member, Lift, Later}
 use Rattle.sf_script.specs.declared.command.Command.{Command}
 use Rattle.sf_script.specs.declared.command.Line.TheVariants.{Silent, Malformed, Read}
 use Rattle.sf_script.specs.declared.command.Line.{Line}
 use Rattle.sf_script.specs.declared.heads.Heads.TheVariants.{Opened}
-use Rattle.sf_script.specs.declared.refusal.Refusal.TheVariants.{Unbuilt, Heading, Unknown, Large}
+use Rattle.sf_script.specs.declared.refusal.Refusal.TheVariants.{Unbuilt, Heading, Unknown, NotInSpan, Large}
 use Rattle.sf_script.specs.declared.refusal.Refusal.{Refusal}
 use Rattle.sf_reply.specs.Texts.{reply_text}
 use Rattle.sf_reply.specs.declared.reply.Reply.TheVariants as told
 use Rattle.sf_reply.specs.declared.reply.Reply.{Reply}
-use Rattle.sf_session.specs.Looks.{Looks, Decided, basis_matrix}
-use Rattle.sf_session.specs.State.{State, noted_state}
+use Rattle.sf_session.specs.Requests.{Request, module_request, vector_request}
+use Rattle.sf_session.specs.State.{State, limit_of, noted_state, looking_state}
+use Rattle.sf_session.specs.Tasks.{Task, Found, Means, plan_of, basis, syzygies, membership, lift}
 
 -- the text is this one, and the state after it is this one
 abbrev pub Writes : List ℕ → State → List ℕ → State → Type 0
@@ -34,9 +39,33 @@ Accepted after text new = Says told.Accepted after text new
 abbrev pub Refused : Refusal → State → List ℕ → State → Type 0
 Refused refusal old text new = Says (told.Refused refusal) (noted_state old) text new
 
--- m, which is looked at, is large
-abbrev pub TooLarge : Matrix → State → List ℕ → State → Type 0
-TooLarge m old text new = Refused (Large (length m.rows) (length m.target)) old text new
+-- what is told of a query's answer
+abbrev pub reply_of : List (List ℕ) → (t : Task) → Found t → Reply
+reply_of names (basis m) b = told.Basis (record { names = names; relations = b })
+reply_of names (syzygies m) b = told.Syz (record { names = names; relations = b })
+reply_of names (membership m v) inside = told.Member inside
+reply_of names (lift m v) None = told.Refused NotInSpan
+reply_of names (lift m v) (Some c) =
+    told.Lift (record { names = names; relations = matrix_of m.ring (row_degrees m) (c ∷ []) })
+
+-- what is replied to a task, by the end of its plan's run: where all matrices are small, what the definitions say and not what the
+-- plan answered; else that one isn't
+abbrev pub Given : List (List ℕ) → (t : Task) → State → Result (Found t) BaseFault → List ℕ → State → Type 0
+Given names t after (Ok a) text new = (b : Found t) × Means t b × Says (reply_of names t b) after text new
+Given names t after (Err Memory) text new = ⊥
+Given names t after (Err (faults.Large rows cols)) text new = Says (told.Refused (Large rows cols)) after text new
+
+-- the reply to a request: its plan is run to an end, and the matrices at which it looks were then looked at
+pub record Requested (request : Request) (old : State) (text : List ℕ) (new : State) : Type 0 where
+  pub looked : List Matrix
+  pub end : Result (Found request.task) BaseFault
+  pub run : Run (limit_of old.heads) (plan_of request.task) looked end
+  pub given : Given request.names request.task (looking_state old looked) end text new
+
+-- the reply to a query line, which may be refused before
+abbrev pub Queried : Result Request Refusal → State → List ℕ → State → Type 0
+Queried (Ok request) old text new = Requested request old text new
+Queried (Err refusal) old text new = Refused refusal old text new
 
 -- what a command of the grammar gives
 abbrev pub Carried : Command → State → List ℕ → State → Type 0
@@ -61,26 +90,11 @@ Carried (Show name) old text new =
     MatchOption (ring_of old.heads) (Refused Heading old text new) (λ ring.
     MatchOption (module_named name old.modules) (Refused (Unknown name) old text new) (λ relations.
     Says (told.Module (record { names = ring.names; relations = relations })) (noted_state old) text new))
-Carried (Basis name) old text new =
-    MatchOption (setting_of old.heads) (Refused Heading old text new) (λ setting.
-    MatchOption (module_named name old.modules) (Refused (Unknown name) old text new) (λ relations.
-    Looks setting.limit relations
-    (λ elements.
-    Says (told.Basis (record {
-      names = setting.ring.names;
-      relations = basis_matrix relations elements;
-    })) (noted_state old) text new)
-    (TooLarge relations old text new)))
+Carried (Basis name) old text new = Queried (module_request basis old.heads old.modules name) old text new
+Carried (Syz name) old text new = Queried (module_request syzygies old.heads old.modules name) old text new
 Carried (Member name vector) old text new =
-    MatchOption (setting_of old.heads) (Refused Heading old text new) (λ setting.
-    MatchOption (module_named name old.modules) (Refused (Unknown name) old text new) (λ relations.
-    MatchResult (vector_given setting.ring relations.target vector.rows)
-    (λ v. Looks setting.limit relations
-    (λ elements. Decided (InSpan relations v)
-    (Says (told.Member true) (noted_state old) text new)
-    (Says (told.Member false) (noted_state old) text new))
-    (TooLarge relations old text new))
-    (λ refusal. Refused refusal old text new)))
+    Queried (vector_request membership old.heads old.modules name vector.rows) old text new
+Carried (Lift name vector) old text new = Queried (vector_request lift old.heads old.modules name vector.rows) old text new
 Carried Later old text new = Refused Unbuilt old text new
 
 -- what a line gives

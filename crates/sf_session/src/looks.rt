@@ -1,64 +1,72 @@
-ghost use Rattle.std.specs.Prelude.{◌≡◌, ◌≤◌, Option, None, List, IfOk, MatchOption};
-ghost use Rattle.std.specs.Option.{option_map};
-ghost use Rattle.sf_algebra.specs.Matrices.{IsMatrix};
-ghost use Rattle.sf_algebra.specs.Rings.{IsOverField};
-ghost use Rattle.sf_algebra.specs.Vectors.{Vector, IsVector};
-ghost use Rattle.sf_groebner.specs.Spans.{InSpan};
-ghost use Rattle.sf_matrix.specs.Bounds.{DegreeFits};
-ghost use Rattle.sf_session.specs.Looks.{IsLook, TellsWhether, basis_matrix};
+ghost use Rattle.std.specs.Prelude.{◌≡◌, ◌≤ℤ◌, Result};
+ghost use Rattle.sf_algebra.specs.Vectors.{IsVector};
+ghost use Rattle.sf_groebner.specs.Lifts.{IsLift};
+ghost use Rattle.sf_matrix.specs.Tables.{GREATEST_REDUCED_DEGREE};
+ghost use Rattle.sf_plans.specs.Meets.{Meets};
+ghost use Rattle.sf_session.specs.Tasks.{basis_plan, syzygies_plan, membership_plan, lift_plan};
 
-use sf_buchberger::graph_basis;
 use sf_field::{Copied, OutOfMemory};
-use sf_matrix::{BaseFault, Matrix, Vector};
-use sf_pairs::{Strategy, Ticks};
-use sf_reduce::normal_form;
+use sf_matrix::{BaseFault, Bases, Free, List, Matrix, Vector};
+use sf_plans::{look, reduced};
 use std::alloc::Global;
 
-/// The reduced basis of the span of a matrix, or `None` where a look finds that the matrix is large.
-pub fn basis_of(
-    alloc: Global,
-    m: &Matrix,
-    limit: u32,
-    strategy: &mut Box<dyn Strategy>,
-) -> Result<Option<Matrix>, OutOfMemory>
-    requires least { 1 ≤ limit }
-    requires greatest { limit ≤ 60 }
-    ensures { IfOk result (λ basis. (answer : Option (List Vector)) × IsLook limit m.now answer
-        × (basis ≡ option_map (basis_matrix m.now) answer)) }
+/// The reduced basis of the span of a matrix, over its target.
+pub fn basis_of<B: Bases>(alloc: Global, m: &Matrix, bases: &mut B) -> Result<Matrix, BaseFault>
+    ensures { Meets (B.table bases.old) (basis_plan m.now) result (B.table bases.new) }
 {
-    if m.rows() == 0 {
-        return Ok(Some(Matrix::new(alloc, m.modulus(), m.target().copy(alloc)?)));
-    }
-    let mut ticks = Ticks::new();
-    match graph_basis(alloc, m, limit, strategy, &mut ticks) {
-        Ok(graph) => Ok(Some(graph.basis)),
-        Err(BaseFault::Large { .. }) => Ok(None),
-        Err(BaseFault::Memory) => Err(OutOfMemory),
+    match look(alloc, m, bases)? {
+        None => Ok(Matrix::new(alloc, m.modulus(), m.target().copy(alloc)?)),
+        Some(entry) => Ok(bases.at(entry).basis.copy(alloc)?),
     }
 }
 
-/// Whether a vector is in the span of a matrix, or `None` where a look finds that the matrix is large.
-pub fn is_in_span(
+/// The reduced basis of the syzygies of a matrix, over the free module of its rows' degrees.
+pub fn syzygies_of<B: Bases>(alloc: Global, m: &Matrix, bases: &mut B) -> Result<Matrix, BaseFault>
+    ensures { Meets (B.table bases.old) (syzygies_plan m.now) result (B.table bases.new) }
+{
+    match look(alloc, m, bases)? {
+        None => {
+            let target = Free {
+                degrees: List::new(alloc),
+            };
+            Ok(Matrix::new(alloc, m.modulus(), target))
+        }
+        Some(entry) => Ok(bases.at(entry).syzygies.copy(alloc)?),
+    }
+}
+
+/// Whether a vector is in the span of a matrix.
+pub fn is_in_span<B: Bases>(
     alloc: Global,
     m: &Matrix,
     v: &Vector,
-    limit: u32,
-    strategy: &mut Box<dyn Strategy>,
-) -> Result<Option<bool>, OutOfMemory>
-    requires least { 1 ≤ limit }
-    requires greatest { limit ≤ 60 }
-    requires field { IsOverField m.now.ring }
-    requires matrix { IsMatrix m.now }
+    bases: &mut B,
+) -> Result<bool, BaseFault>
     requires vector { IsVector m.now.ring m.now.target v.now }
-    requires room { DegreeFits m.now.target v.now.degree }
-    ensures { IfOk result (λ inside. (answer : Option (List Vector)) × IsLook limit m.now answer
-        × MatchOption answer (inside ≡ None) (λ elements. TellsWhether inside (InSpan m.now v.now))) }
+    requires room { v.now.degree ≤ℤ GREATEST_REDUCED_DEGREE }
+    ensures { Meets (B.table bases.old) (membership_plan m.now v.now) result (B.table bases.new) }
 {
-    match basis_of(alloc, m, limit, strategy)? {
-        None => Ok(None),
-        Some(basis) => {
-            let (rest, _quotients) = normal_form(alloc, v, &basis)?;
-            Ok(Some(rest.is_empty()))
-        }
+    let entry = look(alloc, m, bases)?;
+    let (rest, _coefficients) = reduced(alloc, m, entry, v, bases)?;
+    Ok(rest.is_empty())
+}
+
+/// The lift of a vector over the rows of a matrix, or `None` exactly where it isn't in their span.
+pub fn lift_of<B: Bases>(
+    alloc: Global,
+    m: &Matrix,
+    v: &Vector,
+    bases: &mut B,
+) -> Result<Option<Vector>, BaseFault>
+    requires vector { IsVector m.now.ring m.now.target v.now }
+    requires room { v.now.degree ≤ℤ GREATEST_REDUCED_DEGREE }
+    ensures { Meets (B.table bases.old) (lift_plan m.now v.now) result (B.table bases.new) }
+{
+    let entry = look(alloc, m, bases)?;
+    let (rest, coefficients) = reduced(alloc, m, entry, v, bases)?;
+    if rest.is_empty() {
+        Ok(Some(coefficients))
+    } else {
+        Ok(None)
     }
 }

@@ -1,12 +1,12 @@
 ghost use Rattle.std.specs.Prelude.{◌≡◌, ◌≤◌, [], ◌∷◌, ◌++◌, length, IsTrue, IfOk, OnOk, OnErr, is_none};
 ghost use Rattle.std.specs.List.{list_all};
 ghost use Rattle.sf_text.specs.Placed.{is_written_degree};
-ghost use Rattle.sf_script.specs.Grammar.{IsWritten};
 ghost use Rattle.sf_script.specs.Refusals.{module_named};
 ghost use Rattle.sf_session.specs.State.{start, noted_state};
+ghost use Rattle.sf_session.specs.Cuts.{CutStep, CutCommand};
 ghost use Rattle.sf_session.specs.Replies.{Step, Says, Carried};
 
-use crate::answers::{basis_told, membership_told, shown};
+use crate::answers::{basis_told, lift_told, membership_told, shown, syzygies_told};
 use indexmap::IndexMap;
 use sf_field::OutOfMemory;
 use sf_matrix::{List, Matrix, Name};
@@ -16,6 +16,7 @@ use sf_script::{
     Command, Heads, Line, Refusal, Setting, can_open, entered_modulus, limit_refusal, note,
     read_line, relations_of, set_limit,
 };
+use sf_store::Store;
 use sf_text::{RawMatrix, Ring};
 use std::alloc::Global;
 use std::marker::Model;
@@ -27,20 +28,23 @@ const DEFAULT_LIMIT: u32 = 40;
 #[derive(Drop)]
 pub struct Session {
     alloc: Global,
-    strategy: Box<dyn Strategy>,
     heads: Heads,
     modules: IndexMap<Name, Matrix>,
+    store: Store,
 }
 
 impl Model for Session {
     ghost use Rattle.sf_script.specs.Headings.{HasFewVariables, HasLimit};
-    ghost use Rattle.sf_session.specs.State.{State, IsListed, HasModulesIn};
+    ghost use Rattle.std.specs.Prelude.{◌≡◌};
+    ghost use Rattle.sf_matrix.specs.Tables.{matrices_of};
+    ghost use Rattle.sf_session.specs.State.{State, IsListed, HasModulesIn, LooksOnceNoted, limit_of};
 
     ghost Value = { State };
 
-    ghost view = { λ s. record { heads = s.heads; modules = s.modules.entries } };
+    ghost view = { λ s. record { heads = s.heads; modules = s.modules.entries; looked = matrices_of s.store.entries } };
 
-    ghost invariant = { λ s. HasFewVariables s.heads × HasLimit s.heads × IsListed s.heads × HasModulesIn s.heads s.modules.entries };
+    ghost invariant = { λ s. HasFewVariables s.heads × HasLimit s.heads × IsListed s.heads × HasModulesIn s.heads s.modules.entries
+        × (s.store.limit ≡ limit_of s.heads) × LooksOnceNoted s.heads (matrices_of s.store.entries) };
 }
 
 impl Session {
@@ -50,29 +54,22 @@ impl Session {
     {
         Session {
             alloc,
-            strategy,
             heads: Heads::Unopened,
             modules: IndexMap::new(alloc),
+            store: Store::new(alloc, DEFAULT_LIMIT, strategy),
         }
     }
 
     /// The reply to a line with its LF, or nothing where the line has none.
     pub fn line(&mut self, text: &[u8]) -> Result<Vec<u8>, OutOfMemory>
         ensures reply { IfOk result (λ reply. Step self.old text.now reply.items self.new) }
-        ensures kept { OnErr result (self.new ≡ self.old) }
+        ensures cut { OnErr result (CutStep self.old text.now self.new) }
     {
-        match read_line(self.alloc, text)? {
-            Line::Silent => Ok(Vec::new(self.alloc)),
-            Line::Malformed => self.say(&Reply::Malformed),
-            Line::Read(command) => self.carry_out(command),
-        }
-    }
-
-    fn carry_out(&mut self, command: Command) -> Result<Vec<u8>, OutOfMemory>
-        requires { IsWritten command }
-        ensures reply { IfOk result (λ reply. Carried command self.old reply.items self.new) }
-        ensures kept { OnErr result (self.new ≡ self.old) }
-    {
+        let command = match read_line(self.alloc, text)? {
+            Line::Silent => return Ok(Vec::new(self.alloc)),
+            Line::Malformed => return self.say(&Reply::Malformed),
+            Line::Read(command) => command,
+        };
         match command {
             Command::Spectral { version } => self.open(version),
             Command::Ring { modulus, names } => self.enter(modulus, names),
@@ -84,7 +81,9 @@ impl Session {
             } => self.define(name, degrees, relations),
             Command::Show { name } => self.show(name),
             Command::Basis { name } => self.basis(name),
+            Command::Syz { name } => self.syzygies(name),
             Command::Member { name, vector } => self.member(name, vector),
+            Command::Lift { name, vector } => self.lift(name, vector),
             Command::Later => self.say(&Reply::Refused(Refusal::Unbuilt)),
         }
     }
@@ -138,6 +137,7 @@ impl Session {
         }
         let reply = reply_text(self.alloc, &Reply::Accepted)?;
         set_limit(&mut self.heads, limit);
+        self.store.set_limit(limit as u32);
         Ok(reply)
     }
 
@@ -180,33 +180,64 @@ impl Session {
 
     fn basis(&mut self, name: Name) -> Result<Vec<u8>, OutOfMemory>
         ensures reply { IfOk result (λ reply. Carried (Command.Basis name) self.old reply.items self.new) }
-        ensures kept { OnErr result (self.new ≡ self.old) }
+        ensures cut { OnErr result (CutCommand (Command.Basis name) self.old self.new) }
     {
-        let reply = basis_told(
+        let told = basis_told(
             self.alloc,
             &self.heads,
             &self.modules,
-            &mut self.strategy,
+            &mut self.store,
             name,
-        )?;
+        );
         note(&mut self.heads);
-        Ok(reply)
+        told
+    }
+
+    fn syzygies(&mut self, name: Name) -> Result<Vec<u8>, OutOfMemory>
+        ensures reply { IfOk result (λ reply. Carried (Command.Syz name) self.old reply.items self.new) }
+        ensures cut { OnErr result (CutCommand (Command.Syz name) self.old self.new) }
+    {
+        let told = syzygies_told(
+            self.alloc,
+            &self.heads,
+            &self.modules,
+            &mut self.store,
+            name,
+        );
+        note(&mut self.heads);
+        told
     }
 
     fn member(&mut self, name: Name, vector: RawMatrix) -> Result<Vec<u8>, OutOfMemory>
         ensures reply { IfOk result (λ reply. Carried (Command.Member name vector) self.old reply.items self.new) }
-        ensures kept { OnErr result (self.new ≡ self.old) }
+        ensures cut { OnErr result (CutCommand (Command.Member name vector) self.old self.new) }
     {
-        let reply = membership_told(
+        let told = membership_told(
             self.alloc,
             &self.heads,
             &self.modules,
-            &mut self.strategy,
+            &mut self.store,
             name,
             &vector,
-        )?;
+        );
         note(&mut self.heads);
-        Ok(reply)
+        told
+    }
+
+    fn lift(&mut self, name: Name, vector: RawMatrix) -> Result<Vec<u8>, OutOfMemory>
+        ensures reply { IfOk result (λ reply. Carried (Command.Lift name vector) self.old reply.items self.new) }
+        ensures cut { OnErr result (CutCommand (Command.Lift name vector) self.old self.new) }
+    {
+        let told = lift_told(
+            self.alloc,
+            &self.heads,
+            &self.modules,
+            &mut self.store,
+            name,
+            &vector,
+        );
+        note(&mut self.heads);
+        told
     }
 }
 

@@ -63,7 +63,7 @@ fn answers_scripts(rt: HostRuntime) -> Result<(), Fail> {
         ),
         (b"\n  \n# note\n\r\n#\xff\0", b""),
         (
-            b"@\nsyz K\nbasis K\nlimit 1\nlimit x\nshow K\n",
+            b"@\nresolve K 1\nbasis K\nlimit 1\nlimit x\nshow K\n",
             b"error later\nerror later\nerror ring\nerror ring\nerror syntax 0\nerror ring\n",
         ),
         (
@@ -108,6 +108,33 @@ fn answers_by_bases(rt: HostRuntime) -> Result<(), Fail> {
         (
             b"spectral 1\nring 101 x y\nmodule F degrees 0 3 relations []\nbasis F\nmember F [0,0]\nmember F [x,0]\nmodule Z degrees relations []\nmember Z []\n",
             b"ok\nok\nok\nbasis ()->(0,3) []\nmember yes\nmember no\nok\nmember yes\n",
+        ),
+    ];
+    for (script, wanted) in cases {
+        let (status, sink) = answered(rt.alloc(), &["run"], script)?;
+        assert_eq!(rt; status, Status::Done);
+        assert_eq!(rt; sink.bytes(), wanted);
+    }
+    Ok(())
+}
+
+const LIFTS: &[u8] =
+    b"spectral 1\nring 101 x y\nmodule N degrees 0 relations [x^2;x*y+y^2]\nlift N [y^3]\nlift N [y^2]\nmember N [y^2]\nsyz N\nlift N [x^3*y+x^2*y^2]\nlift N [0]\n";
+
+const LIFTS_REPLIES: &[u8] =
+    b"ok\nok\nok\nlift (3)->(2,2) [y,100*x+y]\nerror none\nmember no\nsyz (4)->(2,2) [x*y+y^2,100*x^2]\nlift (4)->(2,2) [0,x^2]\nlift (0)->(2,2) [0,0]\n";
+
+#[test]
+fn answers_by_lifts(rt: HostRuntime) -> Result<(), Fail> {
+    let cases: [(&[u8], &[u8]); 3] = [
+        (LIFTS, LIFTS_REPLIES),
+        (
+            b"spectral 1\nring 101 x y\nmodule F degrees 0 relations []\nlift F [x]\nlift F [0]\nsyz F\nmodule Z degrees 1 relations [0]\nsyz Z\nlift Z [0]\n",
+            b"ok\nok\nok\nerror none\nlift (0)->() []\nsyz ()->() []\nok\nsyz (0)->(0) [1]\nlift (0)->(0) [0]\n",
+        ),
+        (
+            b"spectral 1\nring 101 x y\nlimit 2\nmodule N degrees 0 relations [x^2;x*y+y^2]\nlift N [y^2]\nsyz N\nlift M [x]\nlift N [z]\nlift N [x,x]\nlift N [x+1]\n",
+            b"ok\nok\nok\nok\nerror large 2 1\nerror large 2 1\nerror name M\nerror name z\nerror shape\nerror degree 1\n",
         ),
     ];
     for (script, wanted) in cases {

@@ -1,5 +1,10 @@
-ghost use Rattle.std.specs.Prelude.{◌≡◌, ◌≤◌, [], length};
-ghost use Rattle.sf_matrix.specs.Tables.{IsTable};
+ghost use Rattle.std.specs.Prelude.{◌≡◌, ◌≤◌, ◌<◌, [], length, IfOk};
+ghost use Rattle.std.specs.List.{AllByRecursion};
+ghost use Rattle.sf_algebra.specs.Bounds.{HasSmallSize};
+ghost use Rattle.sf_groebner.specs.Small.{IsSmallReducedBasis};
+ghost use Rattle.sf_groebner.specs.Spans.{InSpan};
+ghost use Rattle.sf_matrix.specs.KeptNumbers.{AreKeptNumbers, IsModerate, SpansInto};
+ghost use Rattle.sf_matrix.specs.Tables.{IsTable, Opened};
 
 use crate::looks::Looks;
 use sf_field::OutOfMemory;
@@ -72,10 +77,16 @@ impl Store {
     }
 }
 
+// What the trait asks of calls that change a table stands here again: with a boxed strategy in it, a caller that has conditions
+// of its own is proved only so.
 impl Bases for Store {
     ghost table = { λ s. s };
 
-    fn open(&mut self, alloc: Global, m: &Matrix) -> Result<usize, BaseFault> {
+    fn open(&mut self, alloc: Global, m: &Matrix) -> Result<usize, BaseFault>
+        requires size { HasSmallSize m.now }
+        requires row { 0 < length m.now.rows }
+        ensures { Opened self.old m.now result self.new }
+    {
         self.looks.open(alloc, m, &mut self.strategy)
     }
 
@@ -92,7 +103,15 @@ impl Bases for Store {
         alloc: Global,
         cands: &Matrix,
         base: &Matrix,
-    ) -> Result<Vec<usize>, OutOfMemory> {
+    ) -> Result<Vec<usize>, OutOfMemory>
+        requires small { IsSmallReducedBasis self.old.limit cands.now }
+        requires degrees { AllByRecursion IsModerate cands.now.target }
+        requires ring { base.now.ring ≡ cands.now.ring }
+        requires target { base.now.target ≡ cands.now.target }
+        requires inside { SpansInto base.now cands.now }
+        ensures same { self.new ≡ self.old }
+        ensures kept { IfOk result (λ ks. AreKeptNumbers (InSpan base.now) cands.now ks.items) }
+    {
         self.looks.minimal(alloc, cands, base)
     }
 }

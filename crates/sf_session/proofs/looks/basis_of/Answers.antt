@@ -1,19 +1,22 @@
-use Rattle.std.proofs.Common.{rules, ◌≡◌, [], Some, length, ap}
-use Rattle.sf_algebra.specs.Matrices.{Matrix}
-use Rattle.sf_session.specs.Looks.{basis_matrix}
-use Rattle.sf_session.proofs.Found.{found-answer, found-none}
+use Rattle.std.proofs.Common.{rules}
+use Rattle.sf_plans.proofs.Rules.{meets_exit}
+use Rattle.sf_session.proofs.TaskSteps.{basis_cut, basis_failed, basis_found, basis_none}
 use Rattle.sf_session.proofs.looks.basis_of.Goals as goal
 
-pub returns-then-rows-eq0 : goal.returns-then-rows-eq0
-returns-then-rows-eq0 g c =
-    let m : Matrix = c.args.m.now in
-    let none : length m.rows ≡ 0 = search rules in
-    let same : c.new.result ≡ basis_matrix m [] = search rules in
-    (Some [], found-none c.args.limit m m.rows none, ap Some same)
+pub returns-in_err-look : goal.returns-in_err-look
+returns-in_err-look g c = meets_exit c.from_residual.ensures.1 (basis_failed c.in_err-look.ensures.looked)
 
-pub returns-in-Ok : goal.returns-in-Ok
-returns-in-Ok g c =
-    let m : Matrix = c.args.m.now in
-    let graph = c.in-Ok.ensures.graph in
-    let some : length m.rows ≡ 0 → ⊥ = λ none. search rules in
-    (Some graph.elements, found-answer c.args.limit m m.rows (Some graph.elements) some graph.small, ap Some graph.basis_rows)
+pub returns-in_err-copy-in-None : goal.returns-in_err-copy-in-None
+returns-in_err-copy-in-None g c =
+    meets_exit c.from_residual-in_err-copy-in-None.ensures.1 (basis_cut c.in_ok-look.ensures.looked)
+
+pub returns-in_err-copy-in-Some : goal.returns-in_err-copy-in-Some
+returns-in_err-copy-in-Some g c =
+    meets_exit c.from_residual-in_err-copy-in-Some.ensures.1 (basis_cut c.in_ok-look.ensures.looked)
+
+pub returns-in_ok-copy-in-None : goal.returns-in_ok-copy-in-None
+returns-in_ok-copy-in-None g c = basis_none c.in-None.is c.in_ok-look.ensures.looked (search rules)
+
+pub returns-in_ok-copy-in-Some : goal.returns-in_ok-copy-in-Some
+returns-in_ok-copy-in-Some g c =
+    basis_found c.in-Some.is c.in_ok-look.ensures.looked c.at.ensures.graph (search rules)

@@ -14,6 +14,6 @@ invariant_of-self-in-Ok-1 g c =
     let defined : definition (ring_of heads) modules c.args.name c.args.degrees rows ≡ Ok c.in-Ok.relations = search rules in
     let added : c.add_module.new.modules.entries ≡ modules ++ (c.args.name, c.in-Ok.relations) ∷ [] = search rules in
     let after : c.note.new.heads ≡ noted heads = search rules in
-    subst (λ (h : Heads). IsKept h c.add_module.new.modules.entries) (sym after)
-    (subst (λ (ms : List (List ℕ × Matrix)). IsKept (noted heads) ms) (sym added)
-    (IsKept-defined heads modules c.args.name c.args.degrees rows c.in-Ok.relations defined c.self.invariant))
+    subst (λ (h : Heads). IsKept h c.add_module.new.modules.entries c.self.inside.store) (sym after)
+    (subst (λ (ms : List (List ℕ × Matrix)). IsKept (noted heads) ms c.self.inside.store) (sym added)
+    (IsKept-defined heads modules c.self.inside.store c.args.name c.args.degrees rows c.in-Ok.relations defined c.self.invariant))
