@@ -11,3 +11,4 @@ pub mod Degrees
 pub mod FoundModules
 pub mod Tellings
 pub mod Kept
+pub mod Independence

@@ -6,3 +6,4 @@ pub mod Tasks
 pub mod Requests
 pub mod Cuts
 pub mod Telling
+pub mod Agreement

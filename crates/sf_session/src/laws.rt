@@ -1,6 +1,6 @@
 //! Laws of the replies and of the output. The functions do nothing: their contracts are the laws.
 
-ghost use Rattle.sf_session.specs.Laws.{HasOneReply, HasOneOutput, FrontBeginsOutput};
+ghost use Rattle.sf_session.specs.Laws.{HasOneReply, HasOneOutput, FrontBeginsOutput, IsFixedByNames, ChangesNoAnswer};
 
 /// After any lines, each line has exactly one reply.
 pub fn one_reply()
@@ -15,4 +15,11 @@ pub fn one_output()
 /// What was written when the sink failed or memory was wanting is a beginning of the output.
 pub fn front_of_output()
     ensures { FrontBeginsOutput }
+{}
+
+/// The reply to a line that gives no limit is fixed by the accepted headings and the names, and an earlier query changes no later
+/// such reply.
+pub fn replies_are_independent()
+    ensures fixed { IsFixedByNames }
+    ensures unchanged { ChangesNoAnswer }
 {}

@@ -10,5 +10,5 @@ mod session;
 mod tests;
 
 pub use execution::{Status, run};
-pub use laws::{front_of_output, one_output, one_reply};
+pub use laws::{front_of_output, one_output, one_reply, replies_are_independent};
 pub use session::Session;
