@@ -45,15 +45,6 @@ pub(crate) fn graph_degrees(alloc: Global, m: &Matrix) -> Result<Free, OutOfMemo
     Ok(Free { degrees })
 }
 
-/// The free module of the rows' degrees.
-pub(crate) fn row_module(alloc: Global, m: &Matrix) -> Result<Free, OutOfMemory>
-    ensures degrees { IfOk result (λ f. f.degrees ≡ row_degrees m.now) }
-{
-    let mut degrees = List::with_capacity(alloc, m.rows())?;
-    push_row_degrees(m, &mut degrees)?;
-    Ok(Free { degrees })
-}
-
 /// Adds the degrees of the rows at the end.
 fn push_row_degrees(m: &Matrix, degrees: &mut List<i32>) -> Result<(), OutOfMemory>
     ensures ok { OnOk result (degrees.new ≡ degrees.old ++ row_degrees m.now) }

@@ -6,7 +6,6 @@ ghost use Rattle.sf_groebner.specs.Spans.{graph_degrees};
 ghost use Rattle.sf_groebner.specs.BasisParts.{values_of, coefficients_of, syzygies_of};
 ghost use Rattle.sf_buchberger.specs.GraphBases.{AreParts, HaveModules, with_rows};
 
-use crate::graph_rows::row_module;
 use sf_field::{Copied, OutOfMemory};
 use sf_matrix::{Graph, Matrix, Vector};
 use std::alloc::Global;
@@ -19,8 +18,8 @@ pub(crate) fn parts(alloc: Global, m: &Matrix, rows: &[Vector]) -> Result<Graph,
 {
     let mut graph = Graph {
         basis: Matrix::new(alloc, m.modulus(), m.target().copy(alloc)?),
-        coefficients: Matrix::new(alloc, m.modulus(), row_module(alloc, m)?),
-        syzygies: Matrix::new(alloc, m.modulus(), row_module(alloc, m)?),
+        coefficients: Matrix::new(alloc, m.modulus(), m.row_module(alloc)?),
+        syzygies: Matrix::new(alloc, m.modulus(), m.row_module(alloc)?),
     };
     for row in rows {
         push_parts(alloc, m, row, &mut graph)?;

@@ -6,3 +6,4 @@ pub mod ColumnVectors
 pub mod Pieces
 pub mod KroneckerBounds
 pub mod DegreeRanges
+pub mod Plans

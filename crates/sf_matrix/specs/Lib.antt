@@ -3,3 +3,8 @@ pub mod Bounds
 pub mod Columns
 pub mod Tables
 pub mod KeptNumbers
+pub mod Questions
+pub mod Plans
+pub mod Runs
+pub mod Meets
+pub mod PlanLaws

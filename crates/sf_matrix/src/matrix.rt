@@ -1,7 +1,7 @@
-ghost use Rattle.std.specs.Prelude.{◌≡◌, ◌<◌, [], ◌∷◌, ◌++◌, length, Some, OnOk, OnErr, slice_get};
+ghost use Rattle.std.specs.Prelude.{◌≡◌, ◌<◌, [], ◌∷◌, ◌++◌, length, Some, IfOk, OnOk, OnErr, slice_get};
 ghost use Rattle.sf_algebra.specs.Rings.{plain};
 ghost use Rattle.sf_algebra.specs.Vectors.{IsVector};
-ghost use Rattle.sf_algebra.specs.Matrices.{IsMatrix};
+ghost use Rattle.sf_algebra.specs.Matrices.{IsMatrix, row_degrees};
 
 mod equality;
 mod identity;
@@ -13,6 +13,7 @@ mod stack;
 mod transpose;
 
 use crate::free::Free;
+use crate::list::List;
 use crate::matrix::stack::push_copies;
 use crate::vector::Vector;
 use sf_field::{Copied, Modulus, OutOfMemory};
@@ -100,6 +101,17 @@ impl Matrix {
         ensures target { result.now.degrees ≡ self.now.target }
     {
         &self.target
+    }
+
+    /// The free module of the rows' degrees.
+    pub fn row_module(&self, alloc: Global) -> Result<Free, OutOfMemory>
+        ensures degrees { IfOk result (λ f. f.degrees ≡ row_degrees self.now) }
+    {
+        let mut degrees = List::with_capacity(alloc, self.rows.len())?;
+        for i in 0..self.rows() {
+            degrees.push(self.row(i).degree())?;
+        }
+        Ok(Free { degrees })
     }
 }
 

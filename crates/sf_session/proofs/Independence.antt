@@ -8,7 +8,7 @@ use Rattle.sf_algebra.specs.Vectors.{Vector}
 use Rattle.sf_matrix.specs.declared.basis.BaseFault.TheVariants as faults
 use Rattle.sf_matrix.specs.declared.basis.BaseFault.TheVariants.{Memory}
 use Rattle.sf_matrix.specs.declared.basis.BaseFault.{BaseFault}
-use Rattle.sf_plans.specs.Runs.{Run}
+use Rattle.sf_matrix.specs.Runs.{Run}
 use Rattle.sf_text.specs.Raw.{RawTerm}
 use Rattle.sf_script.specs.Grammar.{line_of}
 use Rattle.sf_script.specs.Headings.{enters, noted, opens, ring_entered, ring_of}

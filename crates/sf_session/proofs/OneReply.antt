@@ -6,9 +6,9 @@ use Rattle.sf_algebra.specs.Matrices.{Matrix}
 use Rattle.sf_matrix.specs.declared.basis.BaseFault.TheVariants as faults
 use Rattle.sf_matrix.specs.declared.basis.BaseFault.TheVariants.{Memory}
 use Rattle.sf_matrix.specs.declared.basis.BaseFault.{BaseFault}
-use Rattle.sf_plans.specs.Runs.{Run, IsWhole, Agrees}
-use Rattle.sf_plans.proofs.Existence.{run_exists}
-use Rattle.sf_plans.proofs.Uniqueness.{run_unique}
+use Rattle.sf_matrix.specs.Runs.{Run, IsWhole, Agrees}
+use Rattle.sf_matrix.proofs.Plans.Existence.{run_exists}
+use Rattle.sf_matrix.proofs.Plans.Uniqueness.{run_unique}
 use Rattle.sf_script.specs.Grammar.{line_of}
 use Rattle.sf_script.specs.Headings.{ring_of, opens, enters, ring_entered, limited}
 use Rattle.sf_script.specs.Refusals.{module_named, definition}

@@ -15,11 +15,11 @@ use Rattle.sf_groebner.proofs.Spanning.Spans.{span_module, syzygy_module}
 use Rattle.sf_groebner.proofs.Uniqueness.Lifts.{unique_lift}
 use Rattle.sf_groebner.proofs.Uniqueness.UniqueBases.{unique_reduced}
 use Rattle.sf_matrix.specs.Tables.{Table, graph_of}
-use Rattle.sf_plans.specs.Meets.{Meets}
-use Rattle.sf_plans.specs.Plans.{answer, ask}
-use Rattle.sf_plans.specs.Questions.{rest}
-use Rattle.sf_plans.specs.Runs.{Run, IsLookedAt}
-use Rattle.sf_plans.proofs.Readings.{answer_is, ask_is, look_is}
+use Rattle.sf_matrix.specs.Meets.{Meets}
+use Rattle.sf_matrix.specs.Plans.{answer, ask}
+use Rattle.sf_matrix.specs.Questions.{rest}
+use Rattle.sf_matrix.specs.Runs.{Run, IsLookedAt}
+use Rattle.sf_matrix.proofs.Plans.Readings.{answer_is, ask_is, look_is}
 use Rattle.sf_session.specs.Tasks.{Task, basis, syzygies, membership, lift, Found, Means, is_zero, plan_of, basis_plan, syzygies_plan, membership_plan, lift_plan}
 
 -- an answer is meant, and no other

@@ -9,8 +9,8 @@ use Rattle.sf_matrix.specs.Tables.{Table, graph_at}
 use Rattle.sf_matrix.specs.declared.basis.BaseFault.TheVariants.{Memory}
 use Rattle.sf_matrix.specs.declared.basis.BaseFault.{BaseFault}
 use Rattle.sf_matrix.specs.declared.basis.Graph.{Graph}
-use Rattle.sf_plans.specs.Meets.{Meets, IsLookOf, Looked}
-use Rattle.sf_plans.proofs.Rules.{asks_rest, look_cut, look_fails, look_finds, look_skips, look_then, looked_now, meets_answer}
+use Rattle.sf_matrix.specs.Meets.{Meets, IsLookOf, Looked}
+use Rattle.sf_matrix.proofs.Plans.Rules.{asks_rest, look_cut, look_fails, look_finds, look_skips, look_then, looked_now, meets_answer}
 use Rattle.sf_session.specs.Tasks.{basis_plan, syzygies_plan, membership_plan, lift_plan, is_zero}
 use Rattle.sf_session.proofs.TaskAnswers.{is_zero-tests, same_told}
 

@@ -6,11 +6,11 @@ use Rattle.sf_algebra.specs.Vectors.{Vector}
 use Rattle.sf_matrix.specs.Tables.{Table, matrices_of}
 use Rattle.sf_matrix.specs.declared.basis.BaseFault.TheVariants.{Memory, Large}
 use Rattle.sf_matrix.specs.declared.basis.BaseFault.{BaseFault}
-use Rattle.sf_plans.specs.Meets.{Meets}
-use Rattle.sf_plans.specs.Runs.{Run, IsWhole, Agrees}
-use Rattle.sf_plans.proofs.Existence.{run_exists}
-use Rattle.sf_plans.proofs.Rules.{meets_memory}
-use Rattle.sf_plans.proofs.Uniqueness.{run_unique}
+use Rattle.sf_matrix.specs.Meets.{Meets}
+use Rattle.sf_matrix.specs.Runs.{Run, IsWhole, Agrees}
+use Rattle.sf_matrix.proofs.Plans.Existence.{run_exists}
+use Rattle.sf_matrix.proofs.Plans.Rules.{meets_memory}
+use Rattle.sf_matrix.proofs.Plans.Uniqueness.{run_unique}
 use Rattle.sf_text.specs.Raw.{RawTerm}
 use Rattle.sf_script.specs.Refusals.{vector_given}
 use Rattle.sf_script.specs.declared.heads.Heads.{Heads}

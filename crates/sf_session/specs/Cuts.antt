@@ -2,7 +2,7 @@
 use Rattle.std.specs.Prelude.{◌≡◌, ◌⊎◌, ℕ, List, ◌++◌, Result, Ok, Err}
 use Rattle.sf_algebra.specs.Matrices.{Matrix}
 use Rattle.sf_matrix.specs.declared.basis.BaseFault.{BaseFault}
-use Rattle.sf_plans.specs.Runs.{Run, IsWhole}
+use Rattle.sf_matrix.specs.Runs.{Run, IsWhole}
 use Rattle.sf_script.specs.Grammar.{line_of}
 use Rattle.sf_script.specs.declared.command.Command.TheVariants.{Spectral, Ring, Limit, Module, Show, Basis, Syz, Member, Lift, Later}
 use Rattle.sf_script.specs.declared.command.Command.{Command}

@@ -6,7 +6,7 @@ use Rattle.sf_groebner.specs.MinimalGenerators.{matrix_of}
 use Rattle.sf_matrix.specs.declared.basis.BaseFault.TheVariants as faults
 use Rattle.sf_matrix.specs.declared.basis.BaseFault.TheVariants.{Memory}
 use Rattle.sf_matrix.specs.declared.basis.BaseFault.{BaseFault}
-use Rattle.sf_plans.specs.Runs.{Run}
+use Rattle.sf_matrix.specs.Runs.{Run}
 use Rattle.sf_script.specs.Grammar.{line_of}
 use Rattle.sf_script.specs.Headings.{ring_of, opens, enters, ring_entered, limited}
 use Rattle.sf_script.specs.Refusals.{module_named, definition}

@@ -8,8 +8,8 @@ use Rattle.sf_groebner.specs.Lifts.{IsLift}
 use Rattle.sf_groebner.specs.ReducedBases.{IsSpanBasis, IsSyzygyBasis}
 use Rattle.sf_groebner.specs.Spans.{InSpan}
 use Rattle.sf_matrix.specs.Tables.{graph_of}
-use Rattle.sf_plans.specs.Plans.{Plan, answer, look, ask}
-use Rattle.sf_plans.specs.Questions.{rest}
+use Rattle.sf_matrix.specs.Plans.{Plan, answer, look, ask}
+use Rattle.sf_matrix.specs.Questions.{rest}
 
 -- the reduced basis of the span of a matrix; that of its syzygies; whether a vector is in the span; its lift
 pub data Task : Type 0 where

@@ -4,8 +4,8 @@ use Rattle.sf_algebra.specs.Matrices.{Matrix}
 use Rattle.sf_matrix.specs.Tables.{Table, IsGrown}
 use Rattle.sf_matrix.specs.declared.basis.BaseFault.TheVariants as faults
 use Rattle.sf_matrix.specs.declared.basis.BaseFault.{BaseFault}
-use Rattle.sf_plans.specs.Meets.{Meets}
-use Rattle.sf_plans.specs.Runs.{Run, IsWhole}
+use Rattle.sf_matrix.specs.Meets.{Meets}
+use Rattle.sf_matrix.specs.Runs.{Run, IsWhole}
 use Rattle.sf_script.specs.declared.refusal.Refusal.TheVariants.{Large}
 use Rattle.sf_script.specs.declared.refusal.Refusal.{Refusal}
 use Rattle.sf_reply.specs.Texts.{refusal_text, reply_text}

@@ -4,7 +4,7 @@ ghost use Rattle.sf_algebra.specs.Vectors.{IsVector};
 ghost use Rattle.sf_groebner.specs.MinimalGenerators.{matrix_of};
 ghost use Rattle.sf_groebner.specs.Spans.{IsCoefficients};
 ghost use Rattle.sf_matrix.specs.Tables.{GREATEST_REDUCED_DEGREE};
-ghost use Rattle.sf_plans.specs.Meets.{Meets};
+ghost use Rattle.sf_matrix.specs.Meets.{Meets};
 ghost use Rattle.sf_script.specs.Headings.{HasFewVariables};
 ghost use Rattle.sf_script.specs.declared.command.Command.TheVariants.{Show};
 ghost use Rattle.sf_session.specs.Replies.{Carried};

@@ -2,12 +2,11 @@ ghost use Rattle.std.specs.Prelude.{◌≡◌, ◌≤ℤ◌, Result};
 ghost use Rattle.sf_algebra.specs.Vectors.{IsVector};
 ghost use Rattle.sf_groebner.specs.Lifts.{IsLift};
 ghost use Rattle.sf_matrix.specs.Tables.{GREATEST_REDUCED_DEGREE};
-ghost use Rattle.sf_plans.specs.Meets.{Meets};
+ghost use Rattle.sf_matrix.specs.Meets.{Meets};
 ghost use Rattle.sf_session.specs.Tasks.{basis_plan, syzygies_plan, membership_plan, lift_plan};
 
 use sf_field::{Copied, OutOfMemory};
-use sf_matrix::{BaseFault, Bases, Free, List, Matrix, Vector};
-use sf_plans::{look, reduced};
+use sf_matrix::{BaseFault, Bases, Free, List, Matrix, Vector, look, reduced};
 use std::alloc::Global;
 
 /// The reduced basis of the span of a matrix, over its target.

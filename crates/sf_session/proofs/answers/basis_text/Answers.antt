@@ -1,4 +1,4 @@
-use Rattle.sf_plans.proofs.Rules.{meets_cut}
+use Rattle.sf_matrix.proofs.Plans.Rules.{meets_cut}
 use Rattle.std.proofs.lemmas.Result.{err_from_is_err_and}
 use Rattle.sf_session.proofs.answers.basis_text.Goals as goal
 

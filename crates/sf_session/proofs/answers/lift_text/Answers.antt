@@ -1,5 +1,5 @@
 use Rattle.std.proofs.lemmas.Result.{err_from_is_err_and}
-use Rattle.sf_plans.proofs.Rules.{meets_cut}
+use Rattle.sf_matrix.proofs.Plans.Rules.{meets_cut}
 use Rattle.sf_session.proofs.TaskAnswers.{lift_coefficients}
 use Rattle.sf_session.proofs.answers.lift_text.Goals as goal
 

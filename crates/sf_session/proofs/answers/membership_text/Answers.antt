@@ -1,5 +1,5 @@
 use Rattle.std.proofs.lemmas.Result.{err_from_is_err_and}
-use Rattle.sf_plans.proofs.Rules.{meets_cut}
+use Rattle.sf_matrix.proofs.Plans.Rules.{meets_cut}
 use Rattle.sf_session.proofs.answers.membership_text.Goals as goal
 
 pub returns-in_err-reply_text : goal.returns-in_err-reply_text

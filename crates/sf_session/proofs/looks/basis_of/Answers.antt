@@ -1,5 +1,5 @@
 use Rattle.std.proofs.Common.{rules}
-use Rattle.sf_plans.proofs.Rules.{meets_exit}
+use Rattle.sf_matrix.proofs.Plans.Rules.{meets_exit}
 use Rattle.sf_session.proofs.TaskSteps.{basis_cut, basis_failed, basis_found, basis_none}
 use Rattle.sf_session.proofs.looks.basis_of.Goals as goal
 

@@ -1,4 +1,4 @@
-use Rattle.sf_plans.proofs.Rules.{meets_exit}
+use Rattle.sf_matrix.proofs.Plans.Rules.{meets_exit}
 use Rattle.sf_session.proofs.TaskSteps.{membership_cut, membership_failed, membership_found}
 use Rattle.sf_session.proofs.looks.is_in_span.Goals as goal
 

@@ -1,5 +1,5 @@
 use Rattle.std.proofs.Common.{true, false}
-use Rattle.sf_plans.proofs.Rules.{meets_exit}
+use Rattle.sf_matrix.proofs.Plans.Rules.{meets_exit}
 use Rattle.sf_session.proofs.TaskSteps.{lift_cut, lift_failed, lift_found}
 use Rattle.sf_session.proofs.looks.lift_of.Goals as goal
 

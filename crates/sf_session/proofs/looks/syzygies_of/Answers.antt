@@ -1,5 +1,5 @@
 use Rattle.std.proofs.Common.{rules}
-use Rattle.sf_plans.proofs.Rules.{meets_exit}
+use Rattle.sf_matrix.proofs.Plans.Rules.{meets_exit}
 use Rattle.sf_session.proofs.TaskSteps.{syzygies_cut, syzygies_failed, rowless, syzygies_found, syzygies_none}
 use Rattle.sf_session.proofs.looks.syzygies_of.Goals as goal
 

@@ -2,10 +2,14 @@ ghost use Rattle.std.specs.Prelude.{◌≡◌, ◌≤ℤ◌, IfOk};
 ghost use Rattle.sf_algebra.specs.Vectors.{IsVector};
 ghost use Rattle.sf_groebner.specs.Reductions.{IsReduction};
 ghost use Rattle.sf_matrix.specs.Tables.{GREATEST_REDUCED_DEGREE};
-ghost use Rattle.sf_plans.specs.Meets.{Looked, IsLookOf};
+ghost use Rattle.sf_matrix.specs.Meets.{Looked, IsLookOf};
 
+use crate::bases::Bases;
+use crate::basis::BaseFault;
+use crate::matrix::Matrix;
+use crate::sizes::has_small_size;
+use crate::vector::Vector;
 use sf_field::{Copied, OutOfMemory};
-use sf_matrix::{BaseFault, Bases, Matrix, Vector, has_small_size};
 use std::alloc::Global;
 
 /// Looks at a matrix: the number of its entry, or `None` for one without rows, which has no entry. No other function opens an

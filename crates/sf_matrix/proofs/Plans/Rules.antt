@@ -8,12 +8,12 @@ use Rattle.sf_matrix.specs.declared.basis.BaseFault.TheVariants.{Memory}
 use Rattle.sf_matrix.specs.declared.basis.BaseFault.{BaseFault}
 use Rattle.sf_matrix.specs.declared.basis.Graph.{Graph}
 use Rattle.sf_matrix.specs.Tables.{Entry, Table, IsGrown, graph_at, graph_of}
-use Rattle.sf_plans.specs.Meets.{Meets, IsEntry, Looked, IsLookOf, without_rows, with_entry, with_fault}
-use Rattle.sf_plans.specs.Plans.{Plan, answer, look, ask, bind, look_plan}
-use Rattle.sf_plans.specs.Questions.{Question, Answer, IsSensible, Holds, rest}
-use Rattle.sf_plans.specs.Runs.{Run, IsLookedAt, ends, stops, skips, looks, outgrows, refuses, asks, strays}
-use Rattle.sf_plans.proofs.Growth.{grown_none, grown_then, entry_stays}
-use Rattle.sf_plans.proofs.Readings.{look_plan_is}
+use Rattle.sf_matrix.specs.Meets.{Meets, IsEntry, Looked, IsLookOf, without_rows, with_entry, with_fault}
+use Rattle.sf_matrix.specs.Plans.{Plan, answer, look, ask, bind, look_plan}
+use Rattle.sf_matrix.specs.Questions.{Question, Answer, IsSensible, Holds, rest}
+use Rattle.sf_matrix.specs.Runs.{Run, IsLookedAt, ends, stops, skips, looks, outgrows, refuses, asks, strays}
+use Rattle.sf_matrix.proofs.Plans.Growth.{grown_none, grown_then, entry_stays}
+use Rattle.sf_matrix.proofs.Plans.Readings.{look_plan_is}
 
 module _ {A B : Type 0} (limit : ℕ) (further : A → Plan B) where
   -- a run to an answer, and one of what comes then

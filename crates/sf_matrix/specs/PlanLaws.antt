@@ -3,8 +3,8 @@ use Rattle.std.specs.Prelude.{ℕ, List, Result}
 use Rattle.sf_algebra.specs.Matrices.{Matrix}
 use Rattle.sf_algebra.specs.Vectors.{Vector}
 use Rattle.sf_matrix.specs.declared.basis.BaseFault.{BaseFault}
-use Rattle.sf_plans.specs.Plans.{Plan}
-use Rattle.sf_plans.specs.Runs.{Run, IsWhole, Agrees}
+use Rattle.sf_matrix.specs.Plans.{Plan}
+use Rattle.sf_matrix.specs.Runs.{Run, IsWhole, Agrees}
 
 -- for each limit a plan has a run to its end
 abbrev pub HasRuns : Type 0 → Type 0

@@ -8,10 +8,10 @@ use Rattle.sf_algebra.specs.Vectors.{Vector, IsVector}
 use Rattle.sf_algebra.proofs.Monomials.Weights.{field_ring}
 use Rattle.sf_groebner.specs.Small.{IsLarge}
 use Rattle.sf_matrix.specs.declared.basis.BaseFault.TheVariants.{Large}
-use Rattle.sf_plans.specs.Plans.{Plan, answer, look, ask, bind, look_plan}
-use Rattle.sf_plans.specs.Questions.{Question, Answer, IsSensible, Holds}
-use Rattle.sf_plans.specs.Runs.{Run, IsRowless, IsLookedAt, ends, skips, looks, outgrows, refuses, asks}
-use Rattle.sf_plans.proofs.WithoutRows.{graph_basis-no_rows}
+use Rattle.sf_matrix.specs.Plans.{Plan, answer, look, ask, bind, look_plan}
+use Rattle.sf_matrix.specs.Questions.{Question, Answer, IsSensible, Holds}
+use Rattle.sf_matrix.specs.Runs.{Run, IsRowless, IsLookedAt, ends, skips, looks, outgrows, refuses, asks}
+use Rattle.sf_matrix.proofs.Plans.WithoutRows.{graph_basis-no_rows}
 
 looked_at-rowless : (m : Matrix) → IsRowless m → IsLookedAt m []
 looked_at-rowless m h = record {

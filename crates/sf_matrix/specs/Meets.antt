@@ -5,8 +5,8 @@ use Rattle.sf_algebra.specs.Matrices.{Matrix}
 use Rattle.sf_algebra.specs.Vectors.{Vector}
 use Rattle.sf_matrix.specs.declared.basis.BaseFault.{BaseFault}
 use Rattle.sf_matrix.specs.Tables.{Table, IsGrown, graph_of}
-use Rattle.sf_plans.specs.Plans.{Plan, look_plan}
-use Rattle.sf_plans.specs.Runs.{Run}
+use Rattle.sf_matrix.specs.Plans.{Plan, look_plan}
+use Rattle.sf_matrix.specs.Runs.{Run}
 
 pub record Meets {A : Type 0} (before : Table) (plan : Plan A) (end : Result A BaseFault) (after : Table) : Type 0 where
   pub looked : List Matrix

@@ -11,8 +11,8 @@ use Rattle.sf_algebra.specs.Rings.{Ring, Weights, IsPositive, IsOverField}
 use Rattle.sf_algebra.specs.Terms.{Term, IsDescending, IsNonzeroResidue}
 use Rattle.sf_algebra.specs.Vectors.{Place, Vector, IsCanonicalRow, IsHomogeneous, IsTermOfDegree, IsVector, place_cmp, place_degree}
 use Rattle.sf_groebner.proofs.Basics.Decisions.{IsDecided, decide_both, decide_each, decide_from, decide_small_size}
-use Rattle.sf_plans.specs.Questions.{Question, IsSensible, kept, rest}
-use Rattle.sf_plans.specs.Runs.{IsRowless, IsFit}
+use Rattle.sf_matrix.specs.Questions.{Question, IsSensible, kept, rest}
+use Rattle.sf_matrix.specs.Runs.{IsRowless, IsFit}
 
 decide_three : (P Q R : Type 0) → IsDecided P → IsDecided Q → IsDecided R → IsDecided (P × Q × R)
 decide_three P Q R p q r =

@@ -1,6 +1,6 @@
 use Rattle.std.proofs.Common.{rules}
-use Rattle.sf_plans.proofs.LookRules.{field_of, reduced_none}
-use Rattle.sf_plans.proofs.looks.reduced.Goals as goal
+use Rattle.sf_matrix.proofs.Plans.LookRules.{field_of, reduced_none}
+use Rattle.sf_matrix.proofs.looks.reduced.Goals as goal
 
 pub returns-in_ok-copy-in-None : goal.returns-in_ok-copy-in-None
 returns-in_ok-copy-in-None g c =

@@ -4,10 +4,10 @@ use Rattle.sf_algebra.specs.Matrices.{Matrix}
 use Rattle.sf_groebner.proofs.Constructions.MatrixBases.{small_or_large}
 use Rattle.sf_matrix.specs.declared.basis.BaseFault.TheVariants.{Large}
 use Rattle.sf_matrix.specs.declared.basis.BaseFault.{BaseFault}
-use Rattle.sf_plans.specs.Plans.{Plan, answer, look, ask}
-use Rattle.sf_plans.specs.Runs.{Run, IsWhole, large, ends, skips, looks, outgrows, refuses, asks, strays}
-use Rattle.sf_plans.proofs.Answers.{answer_exists}
-use Rattle.sf_plans.proofs.Decisions.{decide_rowless, decide_fit, decide_sensible}
+use Rattle.sf_matrix.specs.Plans.{Plan, answer, look, ask}
+use Rattle.sf_matrix.specs.Runs.{Run, IsWhole, large, ends, skips, looks, outgrows, refuses, asks, strays}
+use Rattle.sf_matrix.proofs.Plans.OneAnswer.{answer_exists}
+use Rattle.sf_matrix.proofs.Plans.Decisions.{decide_rowless, decide_fit, decide_sensible}
 
 -- a run to its end
 abbrev HasWholeRun : (limit : ℕ) {A : Type 0} → Plan A → Type 0

@@ -8,8 +8,8 @@ use Rattle.sf_groebner.specs.ReducedBases.{IsGraphBasis}
 use Rattle.sf_groebner.specs.Small.{IsSmall, IsLarge}
 use Rattle.sf_matrix.specs.declared.basis.BaseFault.TheVariants.{Memory, Large}
 use Rattle.sf_matrix.specs.declared.basis.BaseFault.{BaseFault}
-use Rattle.sf_plans.specs.Questions.{Question, Answer, IsSensible, Holds}
-use Rattle.sf_plans.specs.Plans.{Plan, answer, look, ask}
+use Rattle.sf_matrix.specs.Questions.{Question, Answer, IsSensible, Holds}
+use Rattle.sf_matrix.specs.Plans.{Plan, answer, look, ask}
 
 -- a matrix without rows, which isn't looked at
 pub record IsRowless (m : Matrix) : Type 0 where

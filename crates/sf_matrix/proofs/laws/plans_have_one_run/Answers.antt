@@ -1,6 +1,6 @@
-use Rattle.sf_plans.proofs.Existence.{run_exists}
-use Rattle.sf_plans.proofs.Uniqueness.{run_unique}
-use Rattle.sf_plans.proofs.laws.plans_have_one_run.Goals as goal
+use Rattle.sf_matrix.proofs.Plans.Existence.{run_exists}
+use Rattle.sf_matrix.proofs.Plans.Uniqueness.{run_unique}
+use Rattle.sf_matrix.proofs.laws.plans_have_one_run.Goals as goal
 
 pub returns : goal.returns
 returns c = record {

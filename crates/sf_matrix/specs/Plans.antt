@@ -3,7 +3,7 @@
 use Rattle.std.specs.Prelude.{List}
 use Rattle.sf_algebra.specs.Matrices.{Matrix}
 use Rattle.sf_algebra.specs.Vectors.{Vector}
-use Rattle.sf_plans.specs.Questions.{Question, Answer}
+use Rattle.sf_matrix.specs.Questions.{Question, Answer}
 
 -- an answer; or a look at a matrix, which gives the reduced basis of its graph, and what comes then; or a question, and what comes
 -- then

@@ -9,9 +9,9 @@ use Rattle.sf_groebner.proofs.Spanning.Spans.{graph_module}
 use Rattle.sf_groebner.proofs.Uniqueness.UniqueBases.{unique_reduced}
 use Rattle.sf_matrix.specs.declared.basis.BaseFault.TheVariants.{Memory, Large}
 use Rattle.sf_matrix.specs.declared.basis.BaseFault.{BaseFault}
-use Rattle.sf_plans.specs.Plans.{Plan, answer, look, ask}
-use Rattle.sf_plans.specs.Runs.{Run, IsRowless, IsFit, IsWhole, Agrees, ends, stops, skips, looks, outgrows, refuses, asks, strays}
-use Rattle.sf_plans.proofs.Answers.{answer_unique}
+use Rattle.sf_matrix.specs.Plans.{Plan, answer, look, ask}
+use Rattle.sf_matrix.specs.Runs.{Run, IsRowless, IsFit, IsWhole, Agrees, ends, stops, skips, looks, outgrows, refuses, asks, strays}
+use Rattle.sf_matrix.proofs.Plans.OneAnswer.{answer_unique}
 
 pub same_elements : (limit : ℕ) (m : Matrix) → IsFit m → (es fs : List Vector) → IsSmall limit m es → IsSmall limit m fs
     → es ≡ fs

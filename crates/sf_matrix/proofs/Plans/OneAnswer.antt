@@ -11,7 +11,7 @@ use Rattle.sf_groebner.specs.Spans.{InSpan}
 use Rattle.sf_groebner.proofs.Constructions.Reductions.{reduction_exists, reduction_unique}
 use Rattle.sf_groebner.proofs.Constructions.SumDecisions.{decide_sum_span}
 use Rattle.sf_groebner.proofs.Uniqueness.MinimalGenerators.{unique_kept}
-use Rattle.sf_plans.specs.Questions.{Question, kept, rest, Answer, IsSensible, Holds}
+use Rattle.sf_matrix.specs.Questions.{Question, kept, rest, Answer, IsSensible, Holds}
 
 module _ (base : Matrix) (field : IsOverField base.ring) (matrix : IsMatrix base) where
   kept_exists : (earlier vs : List Vector) → AllByRecursion (IsVector base.ring base.target) earlier

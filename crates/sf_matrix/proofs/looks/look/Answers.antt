@@ -1,7 +1,7 @@
 use Rattle.std.proofs.Common.{rules}
 use Rattle.std.proofs.lemmas.Result.{err_from_is_err_and}
-use Rattle.sf_plans.proofs.LookRules.{field_of, looked_beyond, looked_fails, looked_none, looked_opened}
-use Rattle.sf_plans.proofs.looks.look.Goals as goal
+use Rattle.sf_matrix.proofs.Plans.LookRules.{field_of, looked_beyond, looked_fails, looked_none, looked_opened}
+use Rattle.sf_matrix.proofs.looks.look.Goals as goal
 
 pub returns-then-rows-eq0 : goal.returns-then-rows-eq0
 returns-then-rows-eq0 g c =

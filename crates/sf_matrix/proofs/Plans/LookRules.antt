@@ -11,12 +11,12 @@ use Rattle.sf_groebner.specs.Small.{IsSmall}
 use Rattle.sf_matrix.specs.declared.basis.BaseFault.TheVariants.{Memory, Large}
 use Rattle.sf_matrix.specs.declared.basis.BaseFault.{BaseFault}
 use Rattle.sf_matrix.specs.Tables.{Table, Opened}
-use Rattle.sf_plans.specs.Meets.{Meets, Looked, IsLookOf, without_rows, with_entry, with_fault}
-use Rattle.sf_plans.specs.Plans.{look_plan}
-use Rattle.sf_plans.specs.Runs.{Run, IsFit, large, ends, skips, looks, outgrows, refuses}
-use Rattle.sf_plans.proofs.Growth.{grown_none}
-use Rattle.sf_plans.proofs.Rules.{meets_memory}
-use Rattle.sf_plans.proofs.WithoutRows.{reduction-no_rows, zero_vector}
+use Rattle.sf_matrix.specs.Meets.{Meets, Looked, IsLookOf, without_rows, with_entry, with_fault}
+use Rattle.sf_matrix.specs.Plans.{look_plan}
+use Rattle.sf_matrix.specs.Runs.{Run, IsFit, large, ends, skips, looks, outgrows, refuses}
+use Rattle.sf_matrix.proofs.Plans.Growth.{grown_none}
+use Rattle.sf_matrix.proofs.Plans.Rules.{meets_memory}
+use Rattle.sf_matrix.proofs.Plans.WithoutRows.{reduction-no_rows, zero_vector}
 
 no_items : {X : Type 0} (xs : List X) → length xs ≡ 0 → xs ≡ []
 no_items [] e = refl

@@ -1,5 +1,5 @@
 pub mod Decisions
-pub mod Answers
+pub mod OneAnswer
 pub mod Existence
 pub mod Uniqueness
 pub mod WithoutRows
