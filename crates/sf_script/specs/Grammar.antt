@@ -7,7 +7,7 @@ use Rattle.sf_text.specs.MatrixText.{matrix_written}
 use Rattle.sf_text.specs.Placed.{is_written_degree}
 use Rattle.sf_text.specs.Unknowns.{◌>>=◌}
 use Rattle.sf_text.specs.declared.raw.RawMatrix.{RawMatrix}
-use Rattle.sf_text.specs.Words.{words, begins_with, is_space, is_name, is_number, number_value, is_integer, integer_value}
+use Rattle.sf_grammar.specs.Words.{words, begins_with, is_space, is_name, is_number, number_value, is_integer, integer_value}
 use Rattle.sf_script.specs.declared.command.Command.TheVariants.{Spectral, Ring, Limit, Module, Show, Basis, Syz, Member, Lift, Later}
 use Rattle.sf_script.specs.declared.command.Command.{Command}
 use Rattle.sf_script.specs.declared.command.Line.TheVariants.{Silent, Malformed, Read}

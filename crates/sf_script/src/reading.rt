@@ -2,7 +2,7 @@ ghost use Rattle.std.specs.Prelude.{◌≡◌, IsTrue, IfSome, IfOk, SomeIff, op
 ghost use Rattle.std.specs.List.{list_all, list_any};
 ghost use Rattle.std.specs.Option.{option_map};
 ghost use Rattle.std.specs.Str.{bytes_eq};
-ghost use Rattle.sf_text.specs.Words.{words, is_space, is_name};
+ghost use Rattle.sf_grammar.specs.Words.{words, is_space, is_name};
 ghost use Rattle.sf_script.specs.Grammar.{later_words, is_later_word, is_silent, command_of, line_of, only, first, after, name_argument, vector_arguments, spectral_command, ring_command, limit_command, module_command, degrees_and_rest, IsWritten, HasWrittenCommand};
 ghost use Rattle.sf_text.specs.Placed.{is_written_degree};
 

@@ -4,7 +4,7 @@ use Rattle.sf_session.specs.Laws.{HasOneReply, HasOneOutput, FrontBeginsOutput}
 use Rattle.sf_session.specs.Replies.{Step}
 use Rattle.sf_session.specs.Scripts.{Answers, IsReply}
 use Rattle.sf_session.specs.State.{State, start}
-use Rattle.sf_text.specs.Words.{script_lines}
+use Rattle.sf_grammar.specs.Words.{script_lines}
 use Rattle.sf_session.proofs.OneReply.{IsOne, IsOne-Step}
 
 pub IsOne-Answers : (old : State) (lines : List (List ℕ)) → IsOne (Answers old lines)

@@ -6,7 +6,7 @@ use Rattle.std.proofs.lemmas.List.{take-append-drop}
 use Rattle.sf_session.specs.Replies.{Step}
 use Rattle.sf_session.specs.Scripts.{Answers, IsOutput, IsFront, IsWholeFront}
 use Rattle.sf_session.specs.State.{State, start}
-use Rattle.sf_text.specs.Words.{script_lines}
+use Rattle.sf_grammar.specs.Words.{script_lines}
 
 -- the lines before the rest of a script were answered by what was written, and left this state
 pub record SoFar (old new : Option (List ℕ)) (script rest : List ℕ) (state : State) : Type 0 where

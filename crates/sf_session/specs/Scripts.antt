@@ -2,7 +2,7 @@
 use Rattle.std.specs.Prelude.{◌≡◌, ℕ, ◌+◌, ◌<◌, ◌≤◌, List, [], ◌∷◌, ◌++◌, length}
 use Rattle.sf_session.specs.Replies.{Step}
 use Rattle.sf_session.specs.State.{State, start}
-use Rattle.sf_text.specs.Words.{script_lines}
+use Rattle.sf_grammar.specs.Words.{script_lines}
 use Rattle.sf_session.specs.declared.execution.Status.TheVariants.{Done, Usage, ReadFault, WriteFault, Memory, TooLong, Refused}
 use Rattle.sf_session.specs.declared.execution.Status.{Status}
 

@@ -8,7 +8,7 @@ use Rattle.std.proofs.lemmas.List.Sums.{prefix_len-le-length, prefix_len_passes,
 use Rattle.std.proofs.lemmas.Bool.Decides.{nat_tests}
 use Rattle.std.proofs.Math.Nat.{le_antisymm}
 use Rattle.std.proofs.Math.Seq.{take-length, drop-length}
-use Rattle.sf_text.specs.Words.{script_lines, words, parts, before, is_space, is_filled}
+use Rattle.sf_grammar.specs.Words.{script_lines, words, parts, before, is_space, is_filled}
 
 cond-Some : {X : Type 0} (t : Bool) (a i : X) → cond t (Some a) None ≡ Some i → (t ≡ true) × (a ≡ i)
 cond-Some true a i e = (refl, cc)

@@ -5,7 +5,7 @@ use Rattle.std.specs.Char.{is_ascii_alphabetic}
 use Rattle.std.specs.List.{list_all}
 use Rattle.std.proofs.lemmas.Str.{IsUtf8-from_ascii}
 use Rattle.std.proofs.lemmas.Bool.Decides.{nat_tests}
-use Rattle.sf_text.specs.Words.{is_name, is_name_byte}
+use Rattle.sf_grammar.specs.Words.{is_name, is_name_byte}
 use Rattle.sf_text.proofs.Digits.{&&-true}
 
 is_name_byte-ascii : (b : ℕ) → is_name_byte b ≡ true → b < 128

@@ -9,7 +9,7 @@ use Rattle.std.proofs.Math.Nat.{pow-le-pow_right}
 use Rattle.std.proofs.lemmas.Bool.{leb-true}
 use Rattle.std.proofs.lemmas.Int.Digits.{digits_value-lt}
 use Rattle.sf_text.specs.MatrixText.{caret, all_of, exponent_of, factor_written}
-use Rattle.sf_text.specs.Words.{are_digits, number_value, is_name, before, behind}
+use Rattle.sf_grammar.specs.Words.{are_digits, number_value, is_name, before, behind}
 use Rattle.sf_text.proofs.Digits.{&&-true, digit_value-digit, is_ascii_digit-bounds}
 
 abbrev pub IsSmallFactor : List ℕ × ℕ → Type 0

@@ -1,4 +1,3 @@
-pub mod Words
 pub mod Joins
 pub mod Columns
 pub mod Raw

@@ -4,7 +4,7 @@ use Rattle.std.specs.Prelude.{ℕ, Bool, true, false, ◌-◌, ◌&&◌, ◌||�
 use Rattle.std.specs.Option.{option_map}
 use Rattle.sf_algebra.specs.Printing.{comma, semicolon, plus, star}
 use Rattle.sf_text.specs.Raw.{RawTerm}
-use Rattle.sf_text.specs.Words.{parts, before, behind, begins_with, is_name, is_number, are_digits, number_value}
+use Rattle.sf_grammar.specs.Words.{parts, before, behind, begins_with, is_name, is_number, are_digits, number_value}
 use Rattle.sf_text.specs.declared.raw.RawMatrix.{RawMatrix}
 
 abbrev pub minus : ℕ

@@ -14,7 +14,7 @@ use Rattle.sf_algebra.specs.Vectors.{Place, Vector, IsVector, row_degree}
 use Rattle.sf_text.specs.MatrixText.{inner, matrix_written}
 use Rattle.sf_text.specs.Placed.{relations_of, has_shape, first_fault, is_written_degree}
 use Rattle.sf_text.specs.Unknowns.{first_unknown}
-use Rattle.sf_text.specs.Words.{script_lines, words, parts, is_name, is_integer, integer_value}
+use Rattle.sf_grammar.specs.Words.{script_lines, words, parts, is_name, is_integer, integer_value}
 use Rattle.sf_text.specs.declared.raw.RawMatrix.{RawMatrix}
 use Rattle.sf_text.specs.declared.ring.Ring.{Ring}
 

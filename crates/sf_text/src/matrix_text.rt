@@ -2,7 +2,7 @@ ghost use Rattle.std.specs.Prelude.{◌≡◌, ◌<◌, ◌≤◌, ◌∷◌, �
 ghost use Rattle.std.specs.List.{AllByRecursion, count_by};
 ghost use Rattle.std.specs.Option.{option_map};
 ghost use Rattle.sf_algebra.specs.Printing.{star};
-ghost use Rattle.sf_text.specs.Words.{parts, parts_left};
+ghost use Rattle.sf_grammar.specs.Words.{parts, parts_left};
 ghost use Rattle.sf_text.specs.MatrixText.{is_sign, all_of, signed_left, exponent_of, factor_written, with_factors, term_written, signed_parts, entry_of, row_of, matrix_written};
 
 use crate::raw::{RawMatrix, RawTerm};

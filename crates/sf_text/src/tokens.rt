@@ -2,7 +2,7 @@ ghost use Rattle.std.specs.Prelude.{◌≡◌, ◌^◌, ◌<◌, length, SomeIff
 ghost use Rattle.std.specs.Char.{is_ascii_digit};
 ghost use Rattle.std.specs.List.{list_all};
 ghost use Rattle.sf_text.specs.Placed.{is_written_degree};
-ghost use Rattle.sf_text.specs.Words.{is_name, is_name_byte, are_digits, is_number, number_value, is_integer, integer_value};
+ghost use Rattle.sf_grammar.specs.Words.{is_name, is_name_byte, are_digits, is_number, number_value, is_integer, integer_value};
 
 use sf_field::OutOfMemory;
 use sf_matrix::Name;

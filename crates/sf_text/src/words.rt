@@ -1,6 +1,6 @@
 ghost use Rattle.std.specs.Prelude.{◌≡◌, ◌<◌, ◌≤◌, [], ◌∷◌, ◌==◌, length, MatchOption, IfSome, option_copied, position};
 ghost use Rattle.std.specs.Str.Lines.{strip_carriage_return};
-ghost use Rattle.sf_text.specs.Words.{script_lines, begins_with, words, parts, parts_left, before, behind};
+ghost use Rattle.sf_grammar.specs.Words.{script_lines, begins_with, words, parts, parts_left, before, behind};
 
 /// The first line of a script, and the script after it.
 #[tactic(auto, using(crate::proofs::Cuts::lines_rules))]

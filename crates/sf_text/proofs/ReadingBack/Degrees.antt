@@ -7,7 +7,7 @@ use Rattle.sf_algebra.specs.Printing.{comma}
 use Rattle.sf_algebra.proofs.Basics.Lists.{AllByRecursion-weaken}
 use Rattle.sf_text.specs.Placed.{is_written_degree}
 use Rattle.sf_text.specs.ReadingBack.{IsReadDegree, DegreesReadBack}
-use Rattle.sf_text.specs.Words.{parts, begins_with}
+use Rattle.sf_grammar.specs.Words.{parts, begins_with}
 use Rattle.sf_text.proofs.Digits.{&&-true}
 use Rattle.sf_text.proofs.ReadingBack.Joined.{Lacks, parts-joined}
 use Rattle.sf_text.proofs.ReadingBack.Numbers.{IsDigitByte, decimal-each, are_digits-decimal, number_value-decimal}

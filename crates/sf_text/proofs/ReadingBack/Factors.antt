@@ -7,7 +7,7 @@ use Rattle.std.proofs.lemmas.Bool.Decides.{nat_tests}
 use Rattle.sf_algebra.specs.Printing.{factor_texts, power_text, semicolon}
 use Rattle.sf_algebra.proofs.Basics.Lists.{AllByRecursion-append, AllByRecursion-weaken}
 use Rattle.sf_text.specs.MatrixText.{caret, all_of, exponent_of, factor_written}
-use Rattle.sf_text.specs.Words.{before, behind, is_name, is_name_byte, is_number}
+use Rattle.sf_grammar.specs.Words.{before, behind, is_name, is_name_byte, is_number}
 use Rattle.sf_text.proofs.Digits.{&&-true}
 use Rattle.sf_text.proofs.ReadingBack.Joined.{Lacks, before-first, behind-first, before-whole, behind-whole}
 use Rattle.sf_text.proofs.ReadingBack.Numbers.{is_name-each, decimal-each, are_digits-decimal, number_value-decimal, are_digits-letter}

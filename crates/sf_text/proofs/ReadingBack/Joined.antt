@@ -9,7 +9,7 @@ use Rattle.std.proofs.Math.Seq.{take-append_seam, drop-append-add}
 use Rattle.sf_algebra.specs.Printing.{plus}
 use Rattle.sf_algebra.proofs.Basics.Lists.{AllByRecursion-append, AllByRecursion-weaken}
 use Rattle.sf_text.specs.MatrixText.{minus, is_sign, onto_first_text, signed_parts}
-use Rattle.sf_text.specs.Words.{parts, before, behind}
+use Rattle.sf_grammar.specs.Words.{parts, before, behind}
 use Rattle.sf_text.proofs.Cuts.{before-Some, before-None}
 use Rattle.sf_text.proofs.Signs.{signed_parts-other}
 

@@ -9,7 +9,7 @@ use Rattle.std.proofs.lemmas.Fmt.{decimal_is_IsNumeral, length-decimal-le}
 use Rattle.std.proofs.lemmas.Str.Parse.{digit_from_value}
 use Rattle.sf_algebra.specs.Printing.{semicolon}
 use Rattle.sf_text.specs.MatrixText.{caret}
-use Rattle.sf_text.specs.Words.{are_digits, number_value, is_name, is_name_byte}
+use Rattle.sf_grammar.specs.Words.{are_digits, number_value, is_name, is_name_byte}
 use Rattle.sf_text.proofs.Digits.{&&-true, are_digits-at}
 
 abbrev pub IsDigitByte : ℕ → Type 0

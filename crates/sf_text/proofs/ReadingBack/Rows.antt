@@ -12,7 +12,7 @@ use Rattle.sf_algebra.proofs.Basics.Lists.{AllByRecursion-append, AllByRecursion
 use Rattle.sf_algebra.proofs.Vectors.Entries.{without_position}
 use Rattle.sf_text.specs.MatrixText.{all_of, entry_of, row_of, rows_of, is_bracketed, inner, matrix_written}
 use Rattle.sf_text.specs.Raw.{RawTerm}
-use Rattle.sf_text.specs.Words.{parts}
+use Rattle.sf_grammar.specs.Words.{parts}
 use Rattle.sf_text.specs.declared.raw.RawMatrix.{RawMatrix}
 use Rattle.sf_text.proofs.ReadingBack.OneWord.{IsPrintedByte, IsPrinted}
 use Rattle.sf_text.proofs.ReadingBack.Joined.{joined-each, each-weaken, Lacks, parts-joined}

@@ -10,7 +10,7 @@ use Rattle.sf_algebra.proofs.Basics.Lists.{AllByRecursion-weaken}
 use Rattle.sf_text.specs.MatrixText.{minus, all_of, factor_written, with_factors, term_of_parts, term_written, entry_of}
 use Rattle.sf_text.specs.Raw.{RawTerm}
 use Rattle.sf_text.specs.ReadingBack.{IsWritableMonomial}
-use Rattle.sf_text.specs.Words.{begins_with, is_number}
+use Rattle.sf_grammar.specs.Words.{begins_with, is_number}
 use Rattle.sf_text.proofs.ReadingBack.Joined.{joined-each, each-weaken, Lacks, parts-joined, signed_parts-joined}
 use Rattle.sf_text.proofs.ReadingBack.Numbers.{decimal-each, are_digits-decimal, number_value-decimal}
 use Rattle.sf_text.proofs.ReadingBack.Factors.{AreNames, IsFactorByte, raw_factors, factors-read, factor_texts-each, factor_texts-names, factor_texts-none, length-raw_factors}

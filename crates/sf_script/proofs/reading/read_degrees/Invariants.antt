@@ -3,7 +3,7 @@ use Rattle.std.specs.List.{list_all}
 use Rattle.std.specs.Option.{option_map}
 use Rattle.sf_script.specs.Grammar.{degrees_and_rest}
 use Rattle.sf_text.specs.Placed.{is_written_degree}
-use Rattle.sf_text.specs.Words.{words}
+use Rattle.sf_grammar.specs.Words.{words}
 use Rattle.sf_script.proofs.reading.read_degrees.Given as goal
 
 abbrev pub invariant-loop-word : goal.invariant-loop-word

@@ -1,6 +1,6 @@
 use Rattle.std.proofs.Common.{◌≡◌, ◌++◌, length, IsTrue}
 use Rattle.std.specs.List.{list_all}
-use Rattle.sf_text.specs.Words.{words, is_name}
+use Rattle.sf_grammar.specs.Words.{words, is_name}
 use Rattle.sf_script.proofs.reading.read_names.Given as goal
 
 abbrev pub invariant-loop-word : goal.invariant-loop-word

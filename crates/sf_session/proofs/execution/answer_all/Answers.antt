@@ -1,5 +1,5 @@
 use Rattle.std.proofs.Common.{rules, arith, ◌≡◌, ◌∷◌}
-use Rattle.sf_text.specs.Words.{script_lines}
+use Rattle.sf_grammar.specs.Words.{script_lines}
 use Rattle.sf_session.proofs.SoFar.{SoFar-more, SoFar-cut}
 use Rattle.sf_session.proofs.execution.answer_all.Goals as goal
 

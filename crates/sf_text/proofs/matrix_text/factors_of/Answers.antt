@@ -3,7 +3,7 @@ use Rattle.std.specs.List.{AllByRecursion}
 use Rattle.std.proofs.lemmas.Result.{IfOk-weaker}
 use Rattle.sf_algebra.specs.Printing.{star}
 use Rattle.sf_text.specs.MatrixText.{all_of, factor_written}
-use Rattle.sf_text.specs.Words.{parts}
+use Rattle.sf_grammar.specs.Words.{parts}
 use Rattle.sf_text.proofs.SmallTerms.{all_of-small, IsSmallFactor}
 use Rattle.sf_text.proofs.matrix_text.factors_of.Goals as goal
 

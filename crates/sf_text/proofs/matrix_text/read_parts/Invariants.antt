@@ -1,7 +1,7 @@
 use Rattle.std.proofs.Common.{◌≡◌, ◌+◌, ◌++◌, length, option_copied}
 use Rattle.std.specs.Option.{option_map, option_map_or}
 use Rattle.sf_text.specs.MatrixText.{all_of}
-use Rattle.sf_text.specs.Words.{parts, parts_left}
+use Rattle.sf_grammar.specs.Words.{parts, parts_left}
 use Rattle.sf_text.proofs.matrix_text.read_parts.Given as goal
 
 abbrev pub invariant-loop-left : goal.invariant-loop-left

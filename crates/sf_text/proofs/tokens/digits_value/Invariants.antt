@@ -1,5 +1,5 @@
 use Rattle.std.proofs.Common.{◌≡◌, ◌^◌, ◌<◌, take}
-use Rattle.sf_text.specs.Words.{number_value}
+use Rattle.sf_grammar.specs.Words.{number_value}
 use Rattle.sf_text.proofs.tokens.digits_value.Given as goal
 
 abbrev pub invariant-loop-byte : goal.invariant-loop-byte

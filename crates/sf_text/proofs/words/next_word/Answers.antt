@@ -1,6 +1,6 @@
 use Rattle.std.proofs.Common.{rules, ◌≡◌, ◌∷◌, ◌∙◌, sym, length, false, position, unwrap_or}
 use Rattle.std.proofs.lemmas.Bool.Decides.{nat_tests}
-use Rattle.sf_text.specs.Words.{is_space}
+use Rattle.sf_grammar.specs.Words.{is_space}
 use Rattle.sf_text.proofs.Cuts.{words-first}
 use Rattle.sf_text.proofs.words.next_word.Goals as goal
 

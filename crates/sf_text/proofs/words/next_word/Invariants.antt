@@ -1,5 +1,5 @@
 use Rattle.std.proofs.Common.{◌≡◌, ◌≤◌, length}
-use Rattle.sf_text.specs.Words.{words}
+use Rattle.sf_grammar.specs.Words.{words}
 use Rattle.sf_text.proofs.words.next_word.Given as goal
 
 abbrev pub invariant-loop-first : goal.invariant-loop-first
