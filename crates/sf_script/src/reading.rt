@@ -10,7 +10,8 @@ use crate::command::{Command, Line};
 use sf_field::OutOfMemory;
 use sf_matrix::{List, Name};
 use sf_text::{
-    RawMatrix, begins_with, is_name, make_name, next_word, read_integer, read_matrix, read_number,
+    RawMatrix, begins_with, is_name, make_name, next_word, read_integer, read_number,
+    written_matrix,
 };
 use std::alloc::Global;
 
@@ -189,7 +190,7 @@ fn read_vector(alloc: Global, arguments: &[u8]) -> Result<Option<(Name, RawMatri
     let Some(text) = only_word(rest) else {
         return Ok(None);
     };
-    let Some(vector) = read_matrix(alloc, text)? else {
+    let Some(vector) = written_matrix(alloc, text)? else {
         return Ok(None);
     };
     if !is_name(name) {
@@ -215,7 +216,7 @@ fn read_module(alloc: Global, arguments: &[u8]) -> Result<Option<Command>, OutOf
     let Some(text) = only_word(rest) else {
         return Ok(None);
     };
-    let Some(relations) = read_matrix(alloc, text)? else {
+    let Some(relations) = written_matrix(alloc, text)? else {
         return Ok(None);
     };
     if !is_name(name) {

@@ -7,7 +7,7 @@ use crate::{
 };
 use sf_field::Modulus;
 use sf_matrix::{List, Name};
-use sf_text::{Ring, read_matrix};
+use sf_text::{Ring, written_matrix};
 use std::alloc::Global;
 use std::test::Fail;
 
@@ -103,23 +103,23 @@ fn vectors(rt: HostRuntime) -> Result<(), Fail> {
     let alloc = rt.alloc();
     let ring = line_ring(alloc)?;
     let degrees = [0, 1];
-    let vector = read_matrix(alloc, b"[x,1]")?.ok_or("the matrix")?;
+    let vector = written_matrix(alloc, b"[x,1]")?.ok_or("the matrix")?;
     assert!(rt; vector_of(alloc, &ring, &degrees, &vector)?.is_ok());
-    let vector = read_matrix(alloc, b"[x,x]")?.ok_or("the matrix")?;
+    let vector = written_matrix(alloc, b"[x,x]")?.ok_or("the matrix")?;
     assert!(rt;
         matches!(
             vector_of(alloc, &ring, &degrees, &vector)?,
             Err(Refusal::Degree(1))
         )
     );
-    let vector = read_matrix(alloc, b"[x]")?.ok_or("the matrix")?;
+    let vector = written_matrix(alloc, b"[x]")?.ok_or("the matrix")?;
     assert!(rt;
         matches!(
             vector_of(alloc, &ring, &degrees, &vector)?,
             Err(Refusal::Shape)
         )
     );
-    let vector = read_matrix(alloc, b"[w]")?.ok_or("the matrix")?;
+    let vector = written_matrix(alloc, b"[w]")?.ok_or("the matrix")?;
     assert!(rt;
         matches!(
             vector_of(alloc, &ring, &degrees, &vector)?,

@@ -44,10 +44,17 @@ slice_split-Some p xs i d e =
     let below : position_or_len p xs < length xs = omega (arith, h.0, h.1) in
     slice_split_first p xs d below ∙ ap (λ n. take n xs ∷ slice_split p (drop (n + 1) xs)) h.0
 
+-- the same of a text
+pub cut-Some : (separates : ℕ → Bool) (text : List ℕ) (i : ℕ) → position separates text ≡ Some i
+    → slice_split separates text ≡ take i text ∷ slice_split separates (drop (i + 1) text)
+cut-Some separates text i e = slice_split-Some separates text i 0 e
+
+pub ruleset cut_rules = (slice_split-None, cut-Some)
+
 -- the same of a text and the byte that separates its parts
 pub parts-Some : (separator : ℕ) (text : List ℕ) (i : ℕ) → position (λ b. b == separator) text ≡ Some i
     → parts separator text ≡ take i text ∷ parts separator (drop (i + 1) text)
-parts-Some separator text i e = slice_split-Some (λ b. b == separator) text i 0 e
+parts-Some separator text i e = cut-Some (λ b. b == separator) text i e
 
 pub parts-None : (separator : ℕ) (text : List ℕ) → position (λ b. b == separator) text ≡ None
     → parts separator text ≡ text ∷ []

@@ -1,4 +1,5 @@
 pub mod Cuts
+pub mod DegreeRows
 pub mod Digits
 pub mod Names
 pub mod JoinedItems
@@ -9,3 +10,6 @@ pub mod SmallTerms
 pub mod PlacedTerms
 pub mod PlacedRows
 pub mod ReadingBack
+pub mod MatrixLanguages
+pub mod MatrixReached
+pub mod PartSteps

@@ -15,7 +15,7 @@ sign_and_rest [] = None
 sign_and_rest (b ∷ bs) = Some (b == minus, bs)
 
 -- at a sign the first text ends
-signed_parts-sign : (b : ℕ) (bs : List ℕ) (negative : Bool) → is_sign b ≡ true
+pub signed_parts-sign : (b : ℕ) (bs : List ℕ) (negative : Bool) → is_sign b ≡ true
     → signed_parts negative (b ∷ bs) ≡ (negative, []) ∷ signed_parts (b == minus) bs
 signed_parts-sign b bs negative e = by (b == plus) (b == minus) refl refl e
   where

@@ -2,6 +2,8 @@ pub mod Joins
 pub mod Columns
 pub mod Raw
 pub mod MatrixText
+pub mod MatrixReaches
+pub mod ReadTexts
 pub mod Placed
 pub mod Unknowns
 pub mod ReadingBack

@@ -1,10 +1,10 @@
 -- How a matrix is written. Its text is cut at the semicolons into rows, at the commas into entries, at the signs into
 -- terms, at the stars into factors, and at the caret into a name and its exponent.
-use Rattle.std.specs.Prelude.{ℕ, Bool, true, false, ◌-◌, ◌&&◌, ◌||◌, ◌==◌, nat_le, if◌then◌else◌, Option, Some, None, option_and_then, List, [], ◌∷◌, length, take, drop, slice_index}
+use Rattle.std.specs.Prelude.{ℕ, Bool, true, false, not, ◌&&◌, ◌||◌, ◌==◌, nat_le, if◌then◌else◌, Option, Some, None, option_and_then, List, [], ◌∷◌, length, drop}
 use Rattle.std.specs.Option.{option_map}
 use Rattle.sf_algebra.specs.Printing.{comma, semicolon, plus, star}
 use Rattle.sf_text.specs.Raw.{RawTerm}
-use Rattle.sf_grammar.specs.Words.{parts, before, behind, begins_with, is_name, is_number, are_digits, number_value}
+use Rattle.sf_grammar.specs.Words.{parts, before, behind, begins_with, is_filled, is_name, is_number, are_digits, number_value}
 use Rattle.sf_text.specs.declared.raw.RawMatrix.{RawMatrix}
 
 abbrev pub minus : ℕ
@@ -75,13 +75,21 @@ entry_of text =
 abbrev pub row_of : List ℕ → Option (List (List RawTerm))
 row_of text = all_of entry_of (parts comma text)
 
--- the text stands in brackets
-abbrev pub is_bracketed : List ℕ → Bool
-is_bracketed text = nat_le 2 (length text) && (begins_with 91 text && slice_index text (length text - 1) == 93)
+abbrev pub opening : ℕ
+opening = 91
 
--- what stands between the first byte and the last
-abbrev pub inner : List ℕ → List ℕ
-inner text = take (length text - 2) (drop 1 text)
+abbrev pub closing : ℕ
+closing = 93
+
+-- nothing is left behind a separator
+abbrev pub ends : Option (List ℕ) → Bool
+ends None = false
+ends (Some rest) = not (is_filled rest)
+
+-- what stands between the opening bracket, which is the first byte, and the first closing one, which is the last byte
+abbrev pub in_brackets : List ℕ → Option (List ℕ)
+in_brackets [] = None
+in_brackets (b ∷ bs) = if b == opening && ends (behind closing bs) then Some (before closing bs) else None
 
 -- the rows between the brackets; none where nothing stands there
 abbrev pub rows_of : List ℕ → Option (List (List (List RawTerm)))
@@ -89,4 +97,5 @@ rows_of [] = Some []
 rows_of (b ∷ bs) = all_of row_of (parts semicolon (b ∷ bs))
 
 abbrev pub matrix_written : List ℕ → Option RawMatrix
-matrix_written text = if is_bracketed text then option_map (λ rows. record { rows = rows }) (rows_of (inner text)) else None
+matrix_written text =
+    option_and_then (λ between. option_map (λ rows. record { rows = rows }) (rows_of between)) (in_brackets text)

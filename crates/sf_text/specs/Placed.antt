@@ -1,5 +1,5 @@
 -- What a matrix means that a script writes, in a ring and over a free module.
-use Rattle.std.specs.Prelude.{ℕ, Bool, false, ◌+◌, ◌≤◌, ◌%◌, ◌&&◌, ◌==◌, if◌then◌else◌, Option, Some, None, List, [], ◌∷◌, ◌++◌, length, map, sum_by, ℤ, pos, neg_ℤ, int_le}
+use Rattle.std.specs.Prelude.{ℕ, Bool, false, ◌+◌, ◌≤◌, ◌%◌, ◌&&◌, ◌||◌, ◌==◌, if◌then◌else◌, Option, Some, None, List, [], ◌∷◌, ◌++◌, length, map, slice_index_or, sum_by, ℤ, pos, neg_ℤ, int_le}
 use Rattle.std.specs.Ordering.{int_eq}
 use Rattle.std.specs.List.{list_all}
 use Rattle.std.specs.Str.{bytes_eq}
@@ -61,9 +61,37 @@ relations_of ring degrees rows = record {
   rows = map (row_vector ring degrees) rows;
 }
 
+-- the entries of the row with this number; where no row is written there are none
+abbrev pub row_at : List (List (List RawTerm)) → ℕ → List (List RawTerm)
+row_at rows i = slice_index_or rows i []
+
+-- a row of this degree: equal terms meet, and zeros vanish
+abbrev pub row_of_degree : Ring → ℤ → List (List RawTerm) → Vector
+row_of_degree ring degree entries =
+    record { degree = degree; terms = normal (place_cmp ones) ring.modulus (placed_terms ring 0 entries) }
+
+-- a row of each of these degrees, from row number i on
+abbrev pub rows_of_degrees : Ring → List (List (List RawTerm)) → ℕ → List ℤ → List Vector
+rows_of_degrees ring rows i [] = []
+rows_of_degrees ring rows i (degree ∷ degrees) =
+    row_of_degree ring degree (row_at rows i) ∷ rows_of_degrees ring rows (i + 1) degrees
+
+-- the matrix from the free module with the first degrees to that with the second
+abbrev pub matrix_between : Ring → List ℤ → List ℤ → List (List (List RawTerm)) → Matrix
+matrix_between ring source target rows = record {
+  ring = plain ring.modulus;
+  target = target;
+  rows = rows_of_degrees ring rows 0 source;
+}
+
 -- each row has an entry for each generator
 abbrev pub has_shape : ℕ → List (List (List RawTerm)) → Bool
 has_shape columns = list_all (λ (row : List (List RawTerm)). length row == columns)
+
+-- a matrix has so many rows and columns; where one of the numbers is 0 it is written without rows
+abbrev pub has_size : ℕ → ℕ → List (List (List RawTerm)) → Bool
+has_size count columns [] = (count == 0) || (columns == 0)
+has_size count columns (row ∷ rows) = (length (row ∷ rows) == count) && has_shape columns (row ∷ rows)
 
 -- a matrix has one row of so many columns; over no column it is written as one without rows
 abbrev pub is_single_row : ℕ → List (List (List RawTerm)) → Bool

@@ -1,7 +1,7 @@
 -- A printed matrix reads back as itself: the text of its rows, in brackets, and the degrees before it. The degree of a
 -- row stands among these alone, so a row that is 0 is read from the brackets with the degree 0. (The grammar and the way
 -- of printing are this project's own.)
-use Rattle.std.specs.Prelude.{◌≡◌, ℕ, ◌<◌, ◌≤◌, ◌^◌, true, Some, None, List, [], ◌∷◌, length, map, drop, ℤ}
+use Rattle.std.specs.Prelude.{◌≡◌, ℕ, ◌-◌, ◌<◌, ◌≤◌, ◌^◌, true, Some, None, List, [], ◌∷◌, length, map, take, drop, ℤ}
 use Rattle.std.specs.Fmt.{signed_decimal}
 use Rattle.std.specs.List.{AllByRecursion, IsDistinct}
 use Rattle.std.specs.Str.{bytes_eq}
@@ -11,7 +11,7 @@ use Rattle.sf_algebra.specs.Printing.{comma, degrees_text, rows_text}
 use Rattle.sf_algebra.specs.Rings.{ones, plain}
 use Rattle.sf_algebra.specs.Terms.{Term}
 use Rattle.sf_algebra.specs.Vectors.{Place, Vector, IsVector, row_degree}
-use Rattle.sf_text.specs.MatrixText.{inner, matrix_written}
+use Rattle.sf_text.specs.MatrixText.{matrix_written}
 use Rattle.sf_text.specs.Placed.{relations_of, has_shape, first_fault, is_written_degree}
 use Rattle.sf_text.specs.Unknowns.{first_unknown}
 use Rattle.sf_grammar.specs.Words.{script_lines, words, parts, is_name, is_integer, integer_value}
@@ -90,6 +90,10 @@ HasReadDegree = (p : ℕ) (degrees : List ℤ) (v : Vector) → IsVector (plain 
 pub record IsReadDegree (d : ℤ) : Type 0 where
   pub integer : is_integer (signed_decimal d) ≡ true
   pub value : integer_value (signed_decimal d) ≡ d
+
+-- what stands between the first byte and the last
+abbrev pub inner : List ℕ → List ℕ
+inner text = take (length text - 2) (drop 1 text)
 
 -- between their brackets the degrees of rows or columns stand as integers, one after another
 abbrev pub DegreesReadBack : Type 0

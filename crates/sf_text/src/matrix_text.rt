@@ -3,14 +3,18 @@ ghost use Rattle.std.specs.List.{AllByRecursion, count_by};
 ghost use Rattle.std.specs.Option.{option_map};
 ghost use Rattle.sf_algebra.specs.Printing.{star};
 ghost use Rattle.sf_grammar.specs.Words.{parts, parts_left};
-ghost use Rattle.sf_text.specs.MatrixText.{is_sign, all_of, signed_left, exponent_of, factor_written, with_factors, term_written, signed_parts, entry_of, row_of, matrix_written};
+ghost use Rattle.sf_text.specs.ReadTexts.{LONGEST_TEXT, IsMatrixRead};
+ghost use Rattle.sf_text.specs.declared.matrix_text.ReadText.TheVariants.{Memory};
+ghost use Rattle.sf_text.specs.MatrixText.{is_sign, all_of, signed_left, exponent_of, factor_written, with_factors, term_written, signed_parts, entry_of, row_of, in_brackets, matrix_written};
 
+use crate::matrix_reaches::matrix_reach;
 use crate::raw::{RawMatrix, RawTerm};
 use crate::tokens::{are_digits, digits_value, is_name, make_name, read_number};
 use crate::words::next_part;
 use sf_field::OutOfMemory;
 use sf_matrix::{List, Name};
 use std::alloc::Global;
+use thiserror::Error;
 
 /// What a text may write.
 trait Written: Drop {
@@ -173,7 +177,7 @@ fn find_sign(text: &[u8]) -> Option<usize>
     text.iter().position(|byte| is_sign(*byte))
 }
 
-fn is_sign(byte: u8) -> bool
+pub fn is_sign(byte: u8) -> bool
     ensures { result ≡ is_sign byte }
 {
     byte == b'+' || byte == b'-'
@@ -198,15 +202,44 @@ impl Written for List<List<RawTerm>> {
     }
 }
 
+/// Why a text isn't read.
+#[derive(Clone, Copy, Debug, PartialEq, Eq, Error)]
+pub enum ReadText {
+    /// It leaves the grammar at this column, counted from 1.
+    #[error("the text leaves the grammar at column {col}")]
+    Syntax { col: u32 },
+    #[error("out of memory")]
+    Memory,
+}
+
+impl From<OutOfMemory> for ReadText {
+    ghost from_gives = { λ _ fault. fault ≡ Memory };
+
+    fn from(_fault: OutOfMemory) -> ReadText {
+        ReadText::Memory
+    }
+}
+
+/// The matrix that a text of at most 1,048,576 bytes writes, or the column at which the text leaves the grammar.
+pub fn read_matrix(alloc: Global, text: &[u8]) -> Result<RawMatrix, ReadText>
+    requires { length text.now ≤ LONGEST_TEXT }
+    ensures { IsMatrixRead text.now result }
+{
+    match written_matrix(alloc, text)? {
+        Some(matrix) => Ok(matrix),
+        None => Err(ReadText::Syntax {
+            col: 1 + matrix_reach(text) as u32,
+        }),
+    }
+}
+
 /// The matrix that a text writes, if it writes one.
-pub fn read_matrix(alloc: Global, text: &[u8]) -> Result<Option<RawMatrix>, OutOfMemory>
+pub fn written_matrix(alloc: Global, text: &[u8]) -> Result<Option<RawMatrix>, OutOfMemory>
     ensures { IfOk result (λ r. r ≡ matrix_written text.now) }
 {
-    if text.len() < 2 || text[0] != b'[' || text[text.len() - 1] != b']' {
+    let Some(inner) = in_brackets(text) else {
         return Ok(None);
-    }
-    let (_, opened) = text.split_at(1);
-    let (inner, _) = opened.split_at(text.len() - 2);
+    };
     if inner.is_empty() {
         let rows = List::new(alloc);
         return Ok(Some(RawMatrix { rows }));
@@ -214,5 +247,19 @@ pub fn read_matrix(alloc: Global, text: &[u8]) -> Result<Option<RawMatrix>, OutO
     match read_parts(alloc, inner, b';')? {
         None => Ok(None),
         Some(rows) => Ok(Some(RawMatrix { rows })),
+    }
+}
+
+/// What stands between the brackets of a text, where these are its first byte and its last.
+fn in_brackets(text: &[u8]) -> Option<&[u8]>
+    ensures { option_copied result ≡ in_brackets text.now }
+{
+    let Some((b'[', opened)) = text.split_first() else {
+        return None;
+    };
+    let (inner, rest) = next_part(opened, b']');
+    match rest {
+        Some(rest) if rest.is_empty() => Some(inner),
+        _ => None,
     }
 }

@@ -6,8 +6,8 @@ mod shape;
 mod term;
 
 pub use row::place_row;
-pub use rows::place_rows;
-pub use shape::{first_row, first_unknown, has_shape, is_single_row};
+pub use rows::{place_matrix, place_rows};
+pub use shape::{first_row, first_unknown, has_shape, has_size, is_single_row};
 
 #[cfg(test)]
 mod tests;

@@ -6,7 +6,7 @@ use Rattle.std.specs.List.{AllByRecursion, list_all}
 use Rattle.std.proofs.lemmas.Bool.Decides.{nat_tests}
 use Rattle.sf_algebra.specs.Printing.{factor_texts, power_text, semicolon}
 use Rattle.sf_algebra.proofs.Basics.Lists.{AllByRecursion-append, AllByRecursion-weaken}
-use Rattle.sf_text.specs.MatrixText.{caret, all_of, exponent_of, factor_written}
+use Rattle.sf_text.specs.MatrixText.{caret, closing, all_of, exponent_of, factor_written}
 use Rattle.sf_grammar.specs.Words.{before, behind, is_name, is_name_byte, is_number}
 use Rattle.sf_text.proofs.Digits.{&&-true}
 use Rattle.sf_text.proofs.ReadingBack.Joined.{Lacks, before-first, behind-first, before-whole, behind-whole}
@@ -20,7 +20,7 @@ AreSmall es = AllByRecursion (λ e. e ≤ 999) es
 
 -- a byte of a factor is none that separates what is greater
 abbrev pub IsFactorByte : ℕ → Type 0
-IsFactorByte b = (48 ≤ b) × (b ≢ semicolon)
+IsFactorByte b = (48 ≤ b) × (b ≢ semicolon) × (b ≢ closing)
 
 -- what is read of the factors of a monomial
 abbrev pub raw_factors : List (List ℕ) → List ℕ → List (List ℕ × ℕ)
@@ -42,7 +42,7 @@ behind_name name e = append_assoc name (codes "^") (decimal e)
 
 module _ (name : List ℕ) (named : is_name name ≡ true) (e : ℕ) (small : e ≤ 999) where
   no_caret : Lacks caret name
-  no_caret = AllByRecursion-weaken _ _ (λ b h. h.2) name (is_name-each name named)
+  no_caret = AllByRecursion-weaken _ _ (λ b h. h.3) name (is_name-each name named)
 
   pub factor_written-power : factor_written (power_text name e) ≡ Some (name, e)
   factor_written-power = by (e == 1) refl
@@ -61,17 +61,17 @@ module _ (name : List ℕ) (named : is_name name ≡ true) (e : ℕ) (small : e 
   power_text-each = by (e == 1)
     where
       bytes : AllByRecursion IsFactorByte name
-      bytes = AllByRecursion-weaken _ _ (λ b h. (h.0, h.1)) name (is_name-each name named)
+      bytes = AllByRecursion-weaken _ _ (λ b h. (h.0, h.1, h.2)) name (is_name-each name named)
 
       digits : AllByRecursion IsFactorByte (decimal e)
       digits =
-          AllByRecursion-weaken _ _ (λ b h. (h.0, λ is. omega (arith, h.1))) (decimal e) (decimal-each e (omega arith))
+          AllByRecursion-weaken _ _ (λ b h. (h.0, λ is. omega (arith, h.1), λ is. omega (arith, h.1))) (decimal e) (decimal-each e (omega arith))
 
       by : (t : Bool) → AllByRecursion IsFactorByte (cond t name (name ++ codes "^" ++ decimal e))
       by true = bytes
       by false =
           subst (AllByRecursion IsFactorByte) (sym (behind_name name e))
-          (AllByRecursion-append IsFactorByte name (caret ∷ decimal e) bytes ((omega arith, λ is. omega arith), digits))
+          (AllByRecursion-append IsFactorByte name (caret ∷ decimal e) bytes ((omega arith, λ is. omega arith, λ is. omega arith), digits))
 
 -- a factor is no number
 pub is_number-power : (name : List ℕ) (e : ℕ) → is_name name ≡ true → is_number (power_text name e) ≡ false

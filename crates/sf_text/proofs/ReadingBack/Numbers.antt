@@ -8,7 +8,7 @@ use Rattle.std.proofs.lemmas.Bool.Decides.{nat_tests}
 use Rattle.std.proofs.lemmas.Fmt.{decimal_is_IsNumeral, length-decimal-le}
 use Rattle.std.proofs.lemmas.Str.Parse.{digit_from_value}
 use Rattle.sf_algebra.specs.Printing.{semicolon}
-use Rattle.sf_text.specs.MatrixText.{caret}
+use Rattle.sf_text.specs.MatrixText.{caret, closing}
 use Rattle.sf_grammar.specs.Words.{are_digits, number_value, is_name, is_name_byte}
 use Rattle.sf_text.proofs.Digits.{&&-true, are_digits-at}
 
@@ -43,13 +43,15 @@ number_value-decimal n h = (decimal_is_IsNumeral n h).1
 
 -- a byte of a name is no separator
 abbrev pub IsNameByte : ℕ → Type 0
-IsNameByte b = (48 ≤ b) × (b ≢ semicolon) × (b ≢ caret)
+IsNameByte b = (48 ≤ b) × (b ≢ semicolon) × (b ≢ closing) × (b ≢ caret)
 
 name_byte : (b : ℕ) → is_name_byte b ≡ true → IsNameByte b
-name_byte b e = (grind (arith, nat_tests), grind (arith, nat_tests), grind (arith, nat_tests))
+name_byte b e =
+    (grind (arith, nat_tests), grind (arith, nat_tests), grind (arith, nat_tests), grind (arith, nat_tests))
 
 letter : (b : ℕ) → is_ascii_alphabetic b ≡ true → IsNameByte b
-letter b e = (grind (arith, nat_tests), grind (arith, nat_tests), grind (arith, nat_tests))
+letter b e =
+    (grind (arith, nat_tests), grind (arith, nat_tests), grind (arith, nat_tests), grind (arith, nat_tests))
 
 name_bytes : (bs : List ℕ) → list_all is_name_byte bs ≡ true → AllByRecursion IsNameByte bs
 name_bytes [] e = tt

@@ -1,21 +1,21 @@
 -- The rows of a matrix, as they are printed, read back.
-use Rattle.std.proofs.Common.{◌≡◌, ◌⊎◌, inl, inr, ℕ, zero, suc, ◌+◌, ◌<◌, ◌≤◌, List, [], ◌∷◌, ◌++◌, length, take, map, ◌==◌, nat_le, Bool, true, false, cond, Some, None, refl, ap, ◌∙◌, length-append, slice_index, ◌-◌, arith}
+use Rattle.std.proofs.Common.{◌≡◌, ◌⊎◌, inl, inr, ℕ, zero, suc, ◌+◌, ◌<◌, ◌≤◌, List, [], ◌∷◌, ◌++◌, length, take, map, ◌==◌, true, false, cond, Bool, Some, None, refl, ap, ◌∙◌, length-append, ◌-◌, arith}
 use Rattle.std.specs.List.{AllByRecursion, range_with_len, cons_option, join_with_byte}
-use Rattle.std.specs.Option.{option_map}
-use Rattle.std.proofs.lemmas.Bool.Decides.{nat_tests}
-use Rattle.std.proofs.Math.Seq.{take-append_seam, get_or-append_seam}
+use Rattle.std.specs.Option.{option_map, option_and_then}
+use Rattle.std.proofs.Math.Seq.{take-append_seam}
 use Rattle.sf_algebra.specs.Monomials.{Monomial}
 use Rattle.sf_algebra.specs.Printing.{polynomial_text, row_text, rows_text, comma, semicolon}
 use Rattle.sf_algebra.specs.Terms.{Term}
 use Rattle.sf_algebra.specs.Vectors.{Place, Vector, entry}
 use Rattle.sf_algebra.proofs.Basics.Lists.{AllByRecursion-append, AllByRecursion-weaken}
 use Rattle.sf_algebra.proofs.Vectors.Entries.{without_position}
-use Rattle.sf_text.specs.MatrixText.{all_of, entry_of, row_of, rows_of, is_bracketed, inner, matrix_written}
+use Rattle.sf_text.specs.MatrixText.{all_of, entry_of, row_of, rows_of, closing, in_brackets, matrix_written}
+use Rattle.sf_text.specs.ReadingBack.{inner}
 use Rattle.sf_text.specs.Raw.{RawTerm}
 use Rattle.sf_grammar.specs.Words.{parts}
 use Rattle.sf_text.specs.declared.raw.RawMatrix.{RawMatrix}
 use Rattle.sf_text.proofs.ReadingBack.OneWord.{IsPrintedByte, IsPrinted}
-use Rattle.sf_text.proofs.ReadingBack.Joined.{joined-each, each-weaken, Lacks, parts-joined}
+use Rattle.sf_text.proofs.ReadingBack.Joined.{joined-each, each-weaken, Lacks, parts-joined, before-first, behind-first}
 use Rattle.sf_text.proofs.ReadingBack.Factors.{AreNames}
 use Rattle.sf_text.proofs.ReadingBack.Terms.{IsEntryByte, IsWritableTerm, raw_entry, polynomial_text-each, entry_of-polynomial, all_of-map}
 
@@ -87,11 +87,12 @@ module _ (names : List (List ℕ)) (few : length names ≤ 6) (named : AreNames 
             ap (all_of entry_of) (parts-joined comma (text 0) (map text (range_with_len 1 n)) (entries-lack_comma places))
             ∙ all_of-map entry_of text (λ i. raw_entry names (entry i ts)) places (each _ entry-read places)
 
-  rows-each : (rows : List Vector) → AllByRecursion (λ (v : Vector). HasWritableTerms names v.terms) rows
-      → AllByRecursion (Lacks semicolon) (map (λ (v : Vector). row_text names columns v.terms) rows)
-  rows-each [] h = tt
-  rows-each (v ∷ vs) h =
-      (AllByRecursion-weaken _ _ (λ b k is. omega arith) (row_text names columns v.terms) (row_text-each v.terms h.0), rows-each vs h.1)
+  rows-each : (P : ℕ → Type 0) → ((b : ℕ) → IsRowByte b → P b) → (rows : List Vector)
+      → AllByRecursion (λ (v : Vector). HasWritableTerms names v.terms) rows
+      → AllByRecursion (AllByRecursion P) (map (λ (v : Vector). row_text names columns v.terms) rows)
+  rows-each P f [] h = tt
+  rows-each P f (v ∷ vs) h =
+      (AllByRecursion-weaken _ _ f (row_text names columns v.terms) (row_text-each v.terms h.0), rows-each P f vs h.1)
 
   rows-read : 0 < columns → (rows : List Vector) → AllByRecursion (λ (v : Vector). HasWritableTerms names v.terms) rows
       → all_of row_of (map (λ (v : Vector). row_text names columns v.terms) rows) ≡ Some (map (raw_row names columns) rows)
@@ -117,20 +118,14 @@ inner-between b c text =
     let front : length (b ∷ text ++ c ∷ []) - 2 ≡ length text = omega arith in
     ap (λ n. take n (text ++ c ∷ [])) front ∙ take-append_seam text (c ∷ [])
 
-is_bracketed-brackets : (text : List ℕ) → is_bracketed (91 ∷ text ++ 93 ∷ []) ≡ true
-is_bracketed-brackets text =
-    let size : length (text ++ 93 ∷ []) ≡ length text + 1 = length-append text (93 ∷ []) in
-    let end : length (91 ∷ text ++ 93 ∷ []) - 1 ≡ suc (length text) = omega arith in
-    let two : nat_le 2 (length (91 ∷ text ++ 93 ∷ [])) ≡ true = grind (arith, nat_tests) in
-    let closing : slice_index (91 ∷ text ++ 93 ∷ []) (length (91 ∷ text ++ 93 ∷ []) - 1) ≡ 93 =
-    ap (slice_index (91 ∷ text ++ 93 ∷ [])) end ∙ get_or-append_seam text 93 [] 0 in
-    rw (two, closing)
+-- a text in which no closing bracket stands is what stands between the brackets around it
+in_brackets-around : (text : List ℕ) → Lacks closing text → in_brackets (91 ∷ text ++ 93 ∷ []) ≡ Some text
+in_brackets-around text h = rw (behind-first closing text [] h, before-first closing text [] h)
 
-matrix_written-brackets : (text : List ℕ) (rows : List (List (List RawTerm))) → rows_of text ≡ Some rows
-    → matrix_written (91 ∷ text ++ 93 ∷ []) ≡ Some (record { rows = rows })
-matrix_written-brackets text rows e =
-    ap (λ b. cond b (option_map as_matrix (rows_of (inner (91 ∷ text ++ 93 ∷ [])))) None) (is_bracketed-brackets text)
-    ∙ ap (λ between. option_map as_matrix (rows_of between)) (inner-between 91 93 text)
+matrix_written-brackets : (text : List ℕ) (rows : List (List (List RawTerm))) → Lacks closing text
+    → rows_of text ≡ Some rows → matrix_written (91 ∷ text ++ 93 ∷ []) ≡ Some (record { rows = rows })
+matrix_written-brackets text rows h e =
+    ap (option_and_then (λ between. option_map as_matrix (rows_of between))) (in_brackets-around text h)
     ∙ ap (option_map as_matrix) e
   where
     as_matrix : List (List (List RawTerm)) → RawMatrix
@@ -141,9 +136,11 @@ pub matrix_written-rows : (names : List (List ℕ)) → length names ≤ 6 → A
     → matrix_written (rows_text names columns rows) ≡ Some (record { rows = map (raw_row names columns) rows })
 matrix_written-rows names few named zero some rows h = absurd (omega arith)
 matrix_written-rows names few named (suc n) some rows h =
-    matrix_written-brackets (join_with_byte semicolon (map (λ (v : Vector). row_text names (suc n) v.terms) rows))
-    (map (raw_row names (suc n)) rows)
-    (rows_of-joined _ _ (rows-each names few named (suc n) rows h) (rows-read names few named (suc n) some rows h))
+    let texts = map (λ (v : Vector). row_text names (suc n) v.terms) rows in
+    let each_row = rows-each names few named (suc n) in
+    matrix_written-brackets (join_with_byte semicolon texts) (map (raw_row names (suc n)) rows)
+    (joined-each _ semicolon (λ is. omega arith) texts (each_row _ (λ b k is. omega arith) rows h))
+    (rows_of-joined _ _ (each_row _ (λ b k is. omega arith) rows h) (rows-read names few named (suc n) some rows h))
 
 -- no byte of the printed rows is a space or ends a line
 pub rows_text-each : (names : List (List ℕ)) → length names ≤ 6 → AreNames names → (columns : ℕ) → 0 < columns
@@ -154,12 +151,6 @@ rows_text-each names few named (suc n) some rows h =
     let texts = map (λ (v : Vector). row_text names (suc n) v.terms) rows in (
       omega arith,
       AllByRecursion-append IsPrintedByte (join_with_byte semicolon texts) (93 ∷ [])
-          (joined-each IsPrintedByte semicolon (omega arith) texts (printed rows h)) (omega arith, tt),
+          (joined-each IsPrintedByte semicolon (omega arith) texts
+          (rows-each names few named (suc n) IsPrintedByte (λ b e. omega arith) rows h)) (omega arith, tt),
     )
-  where
-    printed : (vs : List Vector) → AllByRecursion (λ (v : Vector). HasWritableTerms names v.terms) vs
-        → AllByRecursion IsPrinted (map (λ (v : Vector). row_text names (suc n) v.terms) vs)
-    printed [] k = tt
-    printed (v ∷ vs) k =
-        let bytes = row_text-each names few named (suc n) v.terms k.0 in
-        (AllByRecursion-weaken _ _ (λ b e. omega arith) (row_text names (suc n) v.terms) bytes, printed vs k.1)

@@ -109,11 +109,11 @@ module _ (names : List (List ℕ)) (few : length names ≤ 6) (named : AreNames 
       by : (s t : Bool) → AllByRecursion (AllByRecursion IsFactorByte) (factor_texts names (exponents a))
           → AllByRecursion (AllByRecursion IsFactorByte)
           (cond s (cond t (codes "1" ∷ []) (factor_texts names (exponents a))) (decimal c ∷ factor_texts names (exponents a)))
-      by true true factors = (((omega arith, λ is. omega arith), tt), tt)
+      by true true factors = (((omega arith, λ is. omega arith, λ is. omega arith), tt), tt)
       by true false factors = factors
       by false t factors =
           let bytes = decimal-each c (omega arith) in
-          (AllByRecursion-weaken _ _ (λ b h. (h.0, λ is. omega (arith, h.1))) (decimal c) bytes, factors)
+          (AllByRecursion-weaken _ _ (λ b h. (h.0, λ is. omega (arith, h.1), λ is. omega (arith, h.1))) (decimal c) bytes, factors)
 
   term_written-text : term_written (false, term_text names (record { at = a; coefficient = c }))
       ≡ Some (raw_term names (record { at = a; coefficient = c }))
@@ -163,7 +163,7 @@ module _ (names : List (List ℕ)) (few : length names ≤ 6) (named : AreNames 
 
   pub polynomial_text-each : (ts : List (Term Monomial)) → AllByRecursion (IsWritableTerm names) ts
       → AllByRecursion IsEntryByte (polynomial_text names ts)
-  polynomial_text-each [] h = (inl (inl (omega arith, λ is. omega arith)), tt)
+  polynomial_text-each [] h = (inl (inl (omega arith, λ is. omega arith, λ is. omega arith)), tt)
   polynomial_text-each (t ∷ ts) h =
       joined-each IsEntryByte plus (inr refl) (map (term_text names) (t ∷ ts))
       (each-weaken _ _ (λ b k. inl k) (map (term_text names) (t ∷ ts)) (terms-each (t ∷ ts) h))

@@ -3,7 +3,7 @@ ghost use Rattle.std.specs.List.{AllByRecursion, list_all};
 ghost use Rattle.std.specs.Ordering.{int_eq};
 ghost use Rattle.sf_algebra.specs.Rings.{plain, ones};
 ghost use Rattle.sf_algebra.specs.Vectors.{IsVector, generator_degree, place_degree, row_degree};
-ghost use Rattle.sf_text.specs.Placed.{IsWrittenTerm, placed_term, placed_terms, row_vector, is_homogeneous, is_written_degree};
+ghost use Rattle.sf_text.specs.Placed.{IsWrittenTerm, placed_term, placed_terms, row_vector, row_of_degree, is_homogeneous, is_written_degree};
 
 use super::term::placed_term;
 use crate::raw::RawTerm;
@@ -30,6 +30,31 @@ pub fn place_row(
     let terms = placed_terms(alloc, ring, entries)?;
     let terms = sum_of_terms(alloc, ring.modulus, &terms)?;
     let degree = row_degree(degrees, &terms);
+    if have_degree(degrees, degree, &terms) {
+        Ok(Some(Vector::from_canonical(degree, terms)))
+    } else {
+        Ok(None)
+    }
+}
+
+/// The vector of this degree that a row means, or `None` where it isn't homogeneous of it.
+pub fn place_row_of_degree(
+    alloc: Global,
+    ring: &Ring,
+    degrees: &[i32],
+    degree: i32,
+    entries: &[List<RawTerm>],
+) -> Result<Option<Vector>, OutOfMemory>
+    requires few { length ring.now.names ≤ 6 }
+    requires shaped { length entries.now ≡ length degrees.now }
+    requires written { IsTrue (list_all is_written_degree degrees.now) }
+    ensures value { IfOk result (λ r.
+        SomeIff r (IsTrue (is_homogeneous degrees.now (row_of_degree ring.now degree entries.now))) (row_of_degree ring.now degree entries.now)) }
+    ensures vector { IfOk result (λ r. IfSome r (IsVector (plain ring.now.modulus) degrees.now)) }
+    ensures small { IfOk result (λ r. IfSome r (λ v. AllByRecursion IsWrittenTerm v.terms)) }
+{
+    let terms = placed_terms(alloc, ring, entries)?;
+    let terms = sum_of_terms(alloc, ring.modulus, &terms)?;
     if have_degree(degrees, degree, &terms) {
         Ok(Some(Vector::from_canonical(degree, terms)))
     } else {

@@ -1,6 +1,6 @@
 ghost use Rattle.std.specs.Prelude.{◌≡◌, option_copied};
 ghost use Rattle.std.specs.List.{list_all};
-ghost use Rattle.sf_text.specs.Placed.{has_shape, is_single_row, first_row};
+ghost use Rattle.sf_text.specs.Placed.{has_shape, has_size, is_single_row, first_row};
 ghost use Rattle.sf_text.specs.Unknowns.{knows_factor, knows_term, knows_entry, knows_row, first_failing, first_unknown};
 
 use crate::raw::RawTerm;
@@ -74,6 +74,17 @@ pub fn has_shape(columns: usize, rows: &[List<List<RawTerm>>]) -> bool
     ensures { result ≡ has_shape columns rows.now }
 {
     rows.iter().all(|row| row.len() == columns)
+}
+
+/// Whether there are so many rows and columns. Where one of the numbers is 0 no row is written.
+pub fn has_size(count: usize, columns: usize, rows: &[List<List<RawTerm>>]) -> bool
+    ensures { result ≡ has_size count columns rows.now }
+{
+    if rows.is_empty() {
+        count == 0 || columns == 0
+    } else {
+        rows.len() == count && has_shape(columns, rows)
+    }
 }
 
 /// Whether there is one row, with an entry for each of the columns. Over no column it is written as no row.

@@ -1,7 +1,7 @@
 //! Written rows, by worked values.
 
 use super::{first_row, is_single_row};
-use crate::read_matrix;
+use crate::written_matrix;
 use std::test::Fail;
 
 #[test]
@@ -14,10 +14,10 @@ fn single_rows(rt: HostRuntime) -> Result<(), Fail> {
         (b"[x;y]", 1, false),
     ];
     for (text, columns, single) in table {
-        let matrix = read_matrix(rt.alloc(), text)?.ok_or("the matrix")?;
+        let matrix = written_matrix(rt.alloc(), text)?.ok_or("the matrix")?;
         assert_eq!(rt; is_single_row(columns, matrix.rows.as_slice()), single);
     }
-    let matrix = read_matrix(rt.alloc(), b"[x,y;0]")?.ok_or("the matrix")?;
+    let matrix = written_matrix(rt.alloc(), b"[x,y;0]")?.ok_or("the matrix")?;
     assert_eq!(rt; first_row(matrix.rows.as_slice()).len(), 2);
     Ok(())
 }
