@@ -51,7 +51,7 @@ AllByRecursion-insert_by_degree P v (w ∷ ws) h k =
     match_ordering_cases (int_cmp v.degree w.degree) _ _ _ (AllByRecursion P) (λ less. (h, k)) (λ equal. (h, k))
     (λ greater. (k.0, AllByRecursion-insert_by_degree P v ws h k.1))
 
-AllByRecursion-by_degree : (P : Vector → Type 0) (vs : List Vector) → AllByRecursion P vs
+pub AllByRecursion-by_degree : (P : Vector → Type 0) (vs : List Vector) → AllByRecursion P vs
     → AllByRecursion P (by_degree vs)
 AllByRecursion-by_degree P [] h = tt
 AllByRecursion-by_degree P (v ∷ vs) h =

@@ -1,0 +1,13 @@
+pub mod LookSteps
+pub mod LookAnswers
+pub mod PresentationAnswers
+pub mod CoordinateAnswers
+pub mod UnitLeads
+pub mod GeneratorSteps
+pub mod PickedRows
+pub mod FirstBlocks
+pub mod BlockSteps
+pub mod SmallLooks
+pub mod PresentationSteps
+pub mod CoordinateSteps
+pub mod PresentationDegrees
