@@ -1,0 +1,5 @@
+use Rattle.sf_module.proofs.ModuleAnswers.{cokernel_sound, image_sound, kernel_sound}
+use Rattle.sf_module.proofs.laws.answers_are_sound.Goals as goal
+
+pub returns : goal.returns
+returns c = record { kernel = kernel_sound; image = image_sound; cokernel = cokernel_sound }

@@ -1,0 +1,3 @@
+pub mod ModulePlans
+pub mod ModuleLaws
+pub mod SortedPlaces

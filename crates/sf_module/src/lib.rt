@@ -1,0 +1,14 @@
+//! The kernel, the image and the cokernel of a map of presented modules, through any table of bases.
+//!
+//! What a call looks at, and what it answers, is a plan; what a plan answers is a law.
+#![tactic(auto)]
+
+mod laws;
+mod modules;
+mod units;
+
+pub use laws::{
+    answers_are_sound, cokernels_are_answered, images_are_answered, kernels_are_answered,
+};
+pub use modules::{cokernel, image, kernel};
+pub use units::unit_basis;

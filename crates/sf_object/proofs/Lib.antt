@@ -1,0 +1,4 @@
+pub mod Zeros
+pub mod Outside
+pub mod MapFaults
+pub mod FaultSteps

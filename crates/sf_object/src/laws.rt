@@ -1,0 +1,13 @@
+//! What the plan of `map_fault` answers, each as the contract of a function that does nothing.
+
+ghost use Rattle.sf_object.specs.FaultLaws.{AnswersFirstFault, HasNoFaultAsMap};
+
+/// The plan answers the first relation that isn't sent into relations, or that there is none; there is one such answer.
+pub fn first_faults_are_answered()
+    ensures { AnswersFirstFault }
+{}
+
+/// There is none exactly where the matrix is a map of the modules.
+pub fn maps_have_no_fault()
+    ensures { HasNoFaultAsMap }
+{}
