@@ -1,4 +1,4 @@
-ghost use Rattle.std.specs.Prelude.{◌≡◌, ◌≤ℤ◌, IfOk};
+ghost use Rattle.std.specs.Prelude.{◌≡◌, ◌+◌, ◌^◌, ◌<◌, ◌≤ℤ◌, IfOk, IfSome};
 ghost use Rattle.std.specs.List.{AllByRecursion};
 ghost use Rattle.sf_matrix.specs.Meets.{Meets, IsLookOf};
 ghost use Rattle.sf_matrix.specs.Tables.{GREATEST_REDUCED_DEGREE};
@@ -19,7 +19,8 @@ pub fn map_fault<B: Bases>(
 ) -> Result<Option<usize>, BaseFault>
     requires between { IsBetween f.now }
     requires room { HasImageRoom f.now }
-    ensures { Meets (B.table bases.old) (map_plan f.now) result (B.table bases.new) }
+    ensures meets { Meets (B.table bases.old) (map_plan f.now) result (B.table bases.new) }
+    ensures counted { IfOk result (λ found. IfSome found (λ k. k + 1 < 2 ^ 64)) }
 {
     let target = f.target.relations();
     let entry = look(alloc, target, bases)?;
@@ -41,6 +42,7 @@ pub fn first_outside<B: Bases>(
     requires target { vectors.now.target ≡ m.now.target }
     requires room { AllByRecursion (λ v. v.degree ≤ℤ GREATEST_REDUCED_DEGREE) vectors.now.rows }
     ensures first { IfOk result (λ found. IsFirstOrNone m.now vectors.now.rows found) }
+    ensures counted { IfOk result (λ found. IfSome found (λ k. k + 1 < 2 ^ 64)) }
 {
     matrix_facts(m);
     for i in 0..vectors.rows() {

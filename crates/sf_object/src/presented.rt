@@ -36,6 +36,13 @@ impl Presented {
         &self.relations
     }
 
+    /// The relations, taken out of the module.
+    pub fn into_relations(self) -> Matrix
+        ensures relations { result ≡ self }
+    {
+        self.relations
+    }
+
     /// The free module of the generators.
     pub fn free(&self) -> &Free
         ensures degrees { result.now.degrees ≡ self.now.target }
