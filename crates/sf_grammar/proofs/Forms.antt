@@ -4,7 +4,7 @@ use Rattle.std.specs.List.{list_all, slice_split, AllByRecursion}
 use Rattle.std.specs.Option.{option_map_or}
 use Rattle.std.proofs.lemmas.Bool.{true≢false, and_parts, or_right, not-true}
 use Rattle.std.proofs.lemmas.Slice.Eq.{bytes_eq-Decides}
-use Rattle.sf_grammar.specs.Forms.{Item, may_end, begins_with_word, is_solid, Place, behind, front, Kinds, IsRightKind, left_after, fits, fits_line, may_follow, are_items, is_form, items_reach, line_machine, form_reach, FormsReach}
+use Rattle.sf_grammar.specs.Forms.{Item, may_end, begins_with_word, is_solid, LinePlace, items_behind, front, Kinds, IsRightKind, left_after, fits, fits_line, may_follow, are_items, is_form, items_reach, line_machine, form_reach, FormsReach}
 use Rattle.sf_grammar.specs.Forms.Item.{word, one, many, anything}
 use Rattle.sf_grammar.specs.Parts.{runs, accepts, takes, IsRight}
 use Rattle.sf_grammar.specs.Reaches.{Free, Begins, Reaches, nothing}
@@ -32,7 +32,7 @@ bytes_eq_refl text = (bytes_eq-Decides text text).1 refl
 module _ {K : Type 0} (kinds : Kinds K) where
   -- from behind the first word on, a text is cut at spaces into words and empty parts
   runs-behind : (parts : List (List ℕ)) (w : List ℕ) (items : List (Item K))
-      → runs (line_machine kinds) (behind items) (w ∷ parts) ≡ fits kinds items (filter is_filled (w ∷ parts))
+      → runs (line_machine kinds) (items_behind items) (w ∷ parts) ≡ fits kinds items (filter is_filled (w ∷ parts))
   runs-behind [] [] items = refl
   runs-behind [] (b ∷ bs) items = refl
   runs-behind (v ∷ vs) [] items = runs-behind vs v items
@@ -40,14 +40,14 @@ module _ {K : Type 0} (kinds : Kinds K) where
       by (left_after kinds items (b ∷ bs)) (λ left. runs-behind vs v left)
     where
       by : (o : Option (List (Item K)))
-          → ((left : List (Item K)) → runs (line_machine kinds) (behind left) (v ∷ vs) ≡ fits kinds left (filter is_filled (v ∷ vs)))
-          → option_map_or (λ after. runs (line_machine kinds) after (v ∷ vs)) (option_map behind o) false
+          → ((left : List (Item K)) → runs (line_machine kinds) (items_behind left) (v ∷ vs) ≡ fits kinds left (filter is_filled (v ∷ vs)))
+          → option_map_or (λ after. runs (line_machine kinds) after (v ∷ vs)) (option_map items_behind o) false
           ≡ option_map_or (λ left. fits kinds left (filter is_filled (v ∷ vs))) o false
       by None later = refl
       by (Some left) later = later left
 
   runs-front : (b : ℕ) (bs : List ℕ) (parts : List (List ℕ)) (items : List (Item K))
-      → runs (line_machine kinds) (front items) ((b ∷ bs) ∷ parts) ≡ runs (line_machine kinds) (behind items) ((b ∷ bs) ∷ parts)
+      → runs (line_machine kinds) (front items) ((b ∷ bs) ∷ parts) ≡ runs (line_machine kinds) (items_behind items) ((b ∷ bs) ∷ parts)
   runs-front b bs [] items = refl
   runs-front b bs (v ∷ vs) items = refl
 
@@ -178,16 +178,16 @@ module _ {K : Type 0} (kinds : Kinds K) where
     admits_empty (anything ∷ items) begins e = absurd (true≢false (sym begins))
 
   -- a place of a line that can be completed
-  abbrev stands : Place K → Bool
+  abbrev stands : LinePlace K → Bool
   stands place = (not place.at_front || begins_with_word place.left) && are_items kinds place.left
 
   takes_filled : (o : Option (List (Item K)))
-      → (option_map_or may_end o false || is_some (option_map behind o)) ≡ is_some o
+      → (option_map_or may_end o false || is_some (option_map items_behind o)) ≡ is_some o
   takes_filled None = refl
   takes_filled (Some left) = or_right (may_end left) true refl
 
   takes-behind : (items : List (Item K)) (t : List ℕ)
-      → takes (line_machine kinds) (behind items) t ≡ (not (is_filled t) || admits items t)
+      → takes (line_machine kinds) (items_behind items) t ≡ (not (is_filled t) || admits items t)
   takes-behind items [] = or_right (may_end items) true refl
   takes-behind items (b ∷ bs) = takes_filled (left_after kinds items (b ∷ bs))
 
@@ -224,7 +224,7 @@ module _ {K : Type 0} (kinds : Kinds K) where
 
   -- the line goes on behind a word
   through : (at : Bool) (items left : List (Item K)) (w line : List ℕ) → is_filled w ≡ true → Free is_space w
-      → left_after kinds items w ≡ Some left → accepts (line_machine kinds) is_space (behind left) line ≡ true
+      → left_after kinds items w ≡ Some left → accepts (line_machine kinds) is_space (items_behind left) line ≡ true
       → accepts (line_machine kinds) is_space (record { at_front = at; left = items }) (w ++ 32 ∷ line) ≡ true
   through at items left w line filled free goes onward =
       accepts-parted is_space (line_machine kinds) (record { at_front = at; left = items }) w 32 line free refl
@@ -232,7 +232,7 @@ module _ {K : Type 0} (kinds : Kinds K) where
 
   module _ (right : (k : K) → IsRightKind kinds k) where
     spelled : (at : Bool) (spelling : List ℕ) (items : List (Item K)) → is_solid spelling ≡ true
-        → Begins nothing (accepts (line_machine kinds) is_space (behind items)) []
+        → Begins nothing (accepts (line_machine kinds) is_space (items_behind items)) []
         → Begins nothing (accepts (line_machine kinds) is_space (record { at_front = at; left = word spelling ∷ items })) []
     spelled at spelling items solid later =
         let parts = and_parts (is_filled spelling) (list_all (λ b. not (is_space b)) spelling) solid in
@@ -244,7 +244,7 @@ module _ {K : Type 0} (kinds : Kinds K) where
         }
 
     of_kind : (at : Bool) (k : K) (items : List (Item K))
-        → Begins nothing (accepts (line_machine kinds) is_space (behind items)) []
+        → Begins nothing (accepts (line_machine kinds) is_space (items_behind items)) []
         → Begins nothing (accepts (line_machine kinds) is_space (record { at_front = at; left = one k ∷ items })) []
     of_kind at k items later =
         by (Begins-nothing is_space (kinds.is_of k) (kinds.reach k []) ((right k).reached [] tt))
@@ -293,7 +293,7 @@ module _ {K : Type 0} (kinds : Kinds K) where
     completed true (anything ∷ items) begins e = absurd (true≢false (sym begins))
     completed false (anything ∷ items) begins e = record { rest = []; free = tt; accepted = refl }
 
-    kept : (place after : Place K) (w : List ℕ) → stands place ≡ true → (line_machine kinds).next place w ≡ Some after
+    kept : (place after : LinePlace K) (w : List ℕ) → stands place ≡ true → (line_machine kinds).next place w ≡ Some after
         → stands after ≡ true
     kept place after [] e goes = by place.at_front refl goes
       where
@@ -302,11 +302,11 @@ module _ {K : Type 0} (kinds : Kinds K) where
         by false at goes = let same : place ≡ after = cc in subst (λ p. stands p ≡ true) same e
     kept place after (b ∷ bs) e goes = by (left_after kinds place.left (b ∷ bs)) refl goes
       where
-        by : (o : Option (List (Item K))) → left_after kinds place.left (b ∷ bs) ≡ o → option_map behind o ≡ Some after
+        by : (o : Option (List (Item K))) → left_after kinds place.left (b ∷ bs) ≡ o → option_map items_behind o ≡ Some after
             → stands after ≡ true
         by None left goes = cc
         by (Some items) left goes =
-            let same : behind items ≡ after = cc in
+            let same : items_behind items ≡ after = cc in
             subst (λ p. stands p ≡ true) same
             (are_items_left place.left items (b ∷ bs)
             (and_parts (not place.at_front || begins_with_word place.left) (are_items kinds place.left) e).1 left)
@@ -320,7 +320,7 @@ module _ {K : Type 0} (kinds : Kinds K) where
         (λ t. sym (takes-front items t (admits_empty right items begins e))) text (items_reach kinds items text)
         (front_reached right items begins e text free)
     place_reached false items begins e text free =
-        same_language is_space (λ t. not (is_filled t) || admits items t) (takes (line_machine kinds) (behind items))
+        same_language is_space (λ t. not (is_filled t) || admits items t) (takes (line_machine kinds) (items_behind items))
         (λ t. sym (takes-behind items t)) text (items_reach kinds items text) (behind_reached right items e text free)
 
     right_machine : IsRight nothing is_space (line_machine kinds) stands (λ place w. items_reach kinds place.left w)

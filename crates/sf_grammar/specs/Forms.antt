@@ -37,14 +37,14 @@ abbrev pub is_solid : List ℕ → Bool
 is_solid text = is_filled text && list_all (λ b. not (is_space b)) text
 
 -- the items that are left in a line, and whether nothing of the line was read yet
-pub record Place (K : Type 0) : Type 0 where
+pub record LinePlace (K : Type 0) : Type 0 where
   pub at_front : Bool
   pub left : List (Item K)
 
-abbrev pub behind : {K : Type 0} → List (Item K) → Place K
-behind items = record { at_front = false; left = items }
+abbrev pub items_behind : {K : Type 0} → List (Item K) → LinePlace K
+items_behind items = record { at_front = false; left = items }
 
-abbrev pub front : {K : Type 0} → List (Item K) → Place K
+abbrev pub front : {K : Type 0} → List (Item K) → LinePlace K
 front items = record { at_front = true; left = items }
 
 -- which words are of a kind, and how far a text reaches into these
@@ -107,12 +107,12 @@ module _ {K : Type 0} (kinds : Kinds K) where
   items_reach (anything ∷ items) text = length text
 
   -- a line is read word by word; behind the first word parts between spaces may be empty
-  abbrev pub line_machine : Machine (Place K)
+  abbrev pub line_machine : Machine (LinePlace K)
   line_machine =
       record {
         last = λ place w. if is_filled w then option_map_or may_end (left_after place.left w) false
             else (not place.at_front && may_end place.left);
-        next = λ place w. if is_filled w then option_map behind (left_after place.left w)
+        next = λ place w. if is_filled w then option_map items_behind (left_after place.left w)
             else (if place.at_front then None else Some place);
       }
 

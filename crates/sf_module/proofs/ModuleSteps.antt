@@ -19,12 +19,12 @@ use Rattle.sf_genmor.specs.declared.presentation.Presentation.{Presentation}
 use Rattle.sf_genmor.specs.LookPlans.{basis_plan, blocks_plan}
 use Rattle.sf_genmor.specs.PresentationPlans.{IsPresentable, present_plan}
 use Rattle.sf_genmor.proofs.LookAnswers.{basis_look}
-use Rattle.sf_module.specs.ModulePlans.{IsMap, cokernel_plan, image_plan, images_and_relations, kernel_plan, units_over}
+use Rattle.sf_module.specs.ModulePlans.{IsWellDefined, cokernel_plan, image_plan, images_and_relations, kernel_plan, units_over}
 use Rattle.sf_module.proofs.SamePresentations.{InSpan-behind}
 use Rattle.sf_module.proofs.Presentable.{bases_presentable, blocks_presentable, units_presentable}
 
 -- what is a map stands between its modules
-pub map_between : (f : Map) → IsMap f → IsBetween f
+pub map_between : (f : Map) → IsWellDefined f → IsBetween f
 map_between f h = record {
   source_ring = h.source_ring;
   target_ring = h.target_ring;
@@ -64,7 +64,7 @@ module _ {t u : Table} (f : Map) {a : Matrix} (same_target : a ≡ f.target) whe
       kernel_base_fails k = kernel_goes (meets_fails (present_plan cycles) (source_at k))
 
       module _ {base : Matrix} (k : Meets u (basis_plan b) (Ok base) v) where
-        pub kernel_presentable : IsMap f → IsPresentable v.limit cycles base
+        pub kernel_presentable : IsWellDefined f → IsPresentable v.limit cycles base
         kernel_presentable map =
             let first = blocks_at h in
             let second = source_at k in

@@ -11,19 +11,19 @@ use Rattle.sf_genmor.specs.PresentationDegrees.{HasSmallDegrees}
 use Rattle.sf_module.specs.ModulePlans.{IsKernelOf, IsImageOf, IsCokernelOf, kernel_plan, image_plan, cokernel_plan}
 
 -- what a plan answers of a matrix between two modules means this, and nothing else does
-abbrev pub Answers : (Map → Plan Presentation) → (Map → Presentation → Type 0) → Type 0
-Answers plan Means =
+abbrev pub AnswersWith : (Map → Plan Presentation) → (Map → Presentation → Type 0) → Type 0
+AnswersWith plan Means =
     (limit : ℕ) (f : Map) (looked : List Matrix) (p : Presentation) → IsBetween f → Run limit (plan f) looked (Ok p)
     → Means f p × ((q : Presentation) → Means f q → q ≡ p)
 
 abbrev pub AnswersKernel : Type 0
-AnswersKernel = Answers kernel_plan IsKernelOf
+AnswersKernel = AnswersWith kernel_plan IsKernelOf
 
 abbrev pub AnswersImage : Type 0
-AnswersImage = Answers image_plan IsImageOf
+AnswersImage = AnswersWith image_plan IsImageOf
 
 abbrev pub AnswersCokernel : Type 0
-AnswersCokernel = Answers cokernel_plan IsCokernelOf
+AnswersCokernel = AnswersWith cokernel_plan IsCokernelOf
 
 -- generators and relations are matrices over a ring, and their degrees exceed those of small matrices by at most the limit. So
 -- the relations, over the free module of the generators' degrees, are those of a module that later lines may take.

@@ -15,8 +15,8 @@ use Rattle.sf_genmor.specs.LookPlans.{IsBasisMatrix, basis_plan, blocks_plan}
 use Rattle.sf_genmor.specs.PresentationPlans.{present_plan}
 
 -- each relation of the source is sent into the span of the target's relations
-abbrev pub IsMap : Map → Type 0
-IsMap f = IsModuleMap f.source f.target f.matrix
+abbrev pub IsWellDefined : Map → Type 0
+IsWellDefined f = IsModuleMap f.source f.target f.matrix
 
 -- the rows of the matrix, then the relations of the target
 abbrev pub images_and_relations : Map → Matrix

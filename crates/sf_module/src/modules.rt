@@ -1,7 +1,7 @@
 ghost use Rattle.std.specs.Prelude.{Result};
 ghost use Rattle.sf_matrix.specs.Meets.{Meets};
 ghost use Rattle.sf_object.specs.Faults.{IsBetween};
-ghost use Rattle.sf_module.specs.ModulePlans.{IsMap, cokernel_plan, image_plan, kernel_plan};
+ghost use Rattle.sf_module.specs.ModulePlans.{IsWellDefined, cokernel_plan, image_plan, kernel_plan};
 
 use crate::units::unit_basis;
 use sf_genmor::{Presentation, basis_of, first_blocks_of, present};
@@ -14,7 +14,7 @@ use std::alloc::Global;
 ///
 /// It looks at the matrix with the target's relations behind it, at the source's relations, and at what the presentation needs.
 pub fn kernel<B: Bases>(alloc: Global, f: &Map, bases: &mut B) -> Result<Presentation, BaseFault>
-    requires map { IsMap f.now }
+    requires map { IsWellDefined f.now }
     ensures { Meets (B.table bases.old) (kernel_plan f.now) result (B.table bases.new) }
 {
     let cycles = first_blocks_of(alloc, &f.matrix, f.target.relations(), bases)?;
