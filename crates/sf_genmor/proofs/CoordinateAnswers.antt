@@ -1,14 +1,12 @@
 -- What the plan of coordinates answers, by any relations that span all relations.
-use Rattle.std.proofs.Common.{◌≡◌, ◌↔◌, true, false, not, ℕ, List, [], ◌∷◌, length, Bool, if◌then◌else◌, Option, Some, None, Ok, refl, sym, ◌∙◌, ap, subst}
+use Rattle.std.proofs.Common.{◌≡◌, ◌↔◌, true, false, ℕ, List, length, Bool, if◌then◌else◌, Option, Some, None, Ok, refl, sym, ◌∙◌, ap, subst}
 use Rattle.std.specs.Prelude.{IsTrue}
 use Rattle.sf_algebra.specs.Matrices.{Matrix, row_degrees, IsMatrix}
 use Rattle.sf_algebra.specs.MatrixOperations.{stacked, vector_part}
 use Rattle.sf_algebra.specs.Rings.{Ring, IsRing, IsOverField}
-use Rattle.sf_algebra.specs.Terms.{Term}
-use Rattle.sf_algebra.specs.Vectors.{Place, Vector, IsVector}
+use Rattle.sf_algebra.specs.Vectors.{Vector, IsVector}
 use Rattle.sf_algebra.proofs.Basics.Lists.{AllByRecursion-front}
 use Rattle.sf_algebra.proofs.Monomials.Weights.{field_ring}
-use Rattle.sf_groebner.specs.Cuts.{has_terms}
 use Rattle.sf_groebner.specs.MinimalGenerators.{matrix_of}
 use Rattle.sf_groebner.specs.Presentations.{AreRelationsModulo, IsReducedByRelations, IsRelation, IsZero}
 use Rattle.sf_groebner.specs.Reductions.{IsReduction}
@@ -20,12 +18,13 @@ use Rattle.sf_groebner.proofs.Constructions.Reductions.{reduction_lift, reductio
 use Rattle.sf_groebner.proofs.Spanning.SameModules.{IsReducedBasis-same}
 use Rattle.sf_groebner.proofs.Uniqueness.ReducedCoordinates.{InSpan-relations, IsRelation-span}
 use Rattle.sf_matrix.specs.Plans.{answer, ask}
-use Rattle.sf_matrix.specs.Questions.{rest}
+use Rattle.sf_matrix.specs.Questions.{rest, is_zero}
 use Rattle.sf_matrix.specs.Runs.{Run}
 use Rattle.sf_matrix.proofs.Plans.Readings.{answer_is, ask_is, look_is}
+use Rattle.sf_matrix.proofs.Zeros.{is_zero-tests}
 use Rattle.sf_presented.specs.Coordinates.{AreCoordinates}
 use Rattle.sf_presented.proofs.Coordinates.{coordinates-inside, coordinates-lift, unique_coordinates}
-use Rattle.sf_genmor.specs.CoordinatePlans.{SpansRelationsModulo, TellsCoordinates, coordinates_plan, is_zero}
+use Rattle.sf_genmor.specs.CoordinatePlans.{SpansRelationsModulo, TellsCoordinates, coordinates_plan}
 use Rattle.sf_genmor.proofs.LookAnswers.{IsMatrix-base}
 
 -- only the span of the relations counts
@@ -74,11 +73,6 @@ module _ (g base relations : Matrix) (prime : IsOverField g.ring) (spans : Spans
         (λ d k. InSpan-relations g base minimal prime given d ((spans.spans d).1 k)) c h.reduced;
     value = h.value;
   }
-
--- the test of a vector's terms
-pub is_zero-tests : (ts : List (Term Place)) → IsTrue (not (has_terms ts)) ↔ (ts ≡ [])
-is_zero-tests [] = (λ e. refl, λ e. refl)
-is_zero-tests (t ∷ ts) = (λ e. cc, λ e. cc)
 
 -- truth values that tell the same are equal
 pub same_told : (P : Type 0) (a b : Bool) → IsTrue a ↔ P → IsTrue b ↔ P → a ≡ b

@@ -8,10 +8,12 @@ use Rattle.sf_groebner.specs.Reductions.{IsReduction}
 use Rattle.sf_matrix.specs.declared.basis.BaseFault.TheVariants.{Memory}
 use Rattle.sf_matrix.specs.declared.basis.BaseFault.{BaseFault}
 use Rattle.sf_matrix.specs.Meets.{Looked, Meets}
+use Rattle.sf_matrix.specs.Questions.{is_zero}
 use Rattle.sf_matrix.specs.Tables.{Table}
 use Rattle.sf_matrix.proofs.Plans.Rules.{asks_rest, look_cut, look_fails, look_then, meets_answer}
-use Rattle.sf_genmor.specs.CoordinatePlans.{SpansRelationsModulo, TellsCoordinates, coordinates_plan, is_zero}
-use Rattle.sf_genmor.proofs.CoordinateAnswers.{coordinates_are, is_zero-tests, same_told}
+use Rattle.sf_matrix.proofs.Zeros.{is_zero-tests}
+use Rattle.sf_genmor.specs.CoordinatePlans.{SpansRelationsModulo, TellsCoordinates, coordinates_plan}
+use Rattle.sf_genmor.proofs.CoordinateAnswers.{coordinates_are, same_told}
 
 module _ {t u : Table} (g base : Matrix) (v : Vector) {stack : Matrix} (same : stack ≡ stacked g base) where
   pub coordinates_failed : {fault : BaseFault} → Looked t stack (Err fault) u

@@ -1,19 +1,14 @@
 -- The plan of the coordinates of a vector in generators modulo a base, and what its answer means. (Textbook; the choice of the
 -- coordinates is this project's own.)
-use Rattle.std.specs.Prelude.{◌≡◌, ◌↔◌, Bool, not, if◌then◌else◌, Option, Some, None, length}
+use Rattle.std.specs.Prelude.{◌≡◌, ◌↔◌, if◌then◌else◌, Option, Some, None, length}
 use Rattle.sf_algebra.specs.Matrices.{Matrix, row_degrees, IsMatrix}
 use Rattle.sf_algebra.specs.MatrixOperations.{stacked, vector_part}
 use Rattle.sf_algebra.specs.Vectors.{Vector}
-use Rattle.sf_groebner.specs.Cuts.{has_terms}
 use Rattle.sf_groebner.specs.Presentations.{IsRelation}
 use Rattle.sf_groebner.specs.Spans.{InSpan}
 use Rattle.sf_matrix.specs.Plans.{Plan, answer, look, ask}
-use Rattle.sf_matrix.specs.Questions.{rest}
+use Rattle.sf_matrix.specs.Questions.{rest, is_zero}
 use Rattle.sf_presented.specs.Coordinates.{AreCoordinates}
-
--- nothing is left of a vector
-abbrev pub is_zero : Vector → Bool
-is_zero v = not (has_terms v.terms)
 
 -- one look at the generators with the base behind them; then what the vector leaves, and the first block of its coefficients
 unfoldable pub coordinates_plan : Matrix → Matrix → Vector → Plan (Option Vector)

@@ -6,4 +6,5 @@ pub mod ColumnVectors
 pub mod Pieces
 pub mod KroneckerBounds
 pub mod DegreeRanges
+pub mod Zeros
 pub mod Plans

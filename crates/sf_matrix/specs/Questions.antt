@@ -1,10 +1,11 @@
 -- What a query may ask of vectors, once the matrices that it needs were looked at. (Textbook; the choice of the answers is this
 -- project's own.)
-use Rattle.std.specs.Prelude.{List, []}
+use Rattle.std.specs.Prelude.{List, [], Bool, not}
 use Rattle.std.specs.List.{AllByRecursion}
 use Rattle.sf_algebra.specs.Matrices.{Matrix, IsMatrix}
 use Rattle.sf_algebra.specs.Rings.{IsOverField}
 use Rattle.sf_algebra.specs.Vectors.{Vector, IsVector}
+use Rattle.sf_groebner.specs.Cuts.{has_terms}
 use Rattle.sf_groebner.specs.MinimalGenerators.{AreKept}
 use Rattle.sf_groebner.specs.Reductions.{IsReduction}
 use Rattle.sf_groebner.specs.Spans.{InSpan}
@@ -29,3 +30,7 @@ IsSensible (rest m v) = IsOverField m.ring × IsMatrix m × IsVector m.ring m.ta
 abbrev pub Holds : (q : Question) → Answer q → Type 0
 Holds (kept base vs) ws = AreKept base.ring (InSpan base) [] vs ws
 Holds (rest m v) x = IsReduction m v x.0 x.1
+
+-- nothing is left of a vector
+abbrev pub is_zero : Vector → Bool
+is_zero v = not (has_terms v.terms)

@@ -1,4 +1,3 @@
-pub mod Zeros
 pub mod Outside
 pub mod MapFaults
 pub mod FaultSteps

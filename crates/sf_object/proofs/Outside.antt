@@ -13,11 +13,11 @@ use Rattle.sf_groebner.specs.Reductions.{IsReduction}
 use Rattle.sf_groebner.specs.Spans.{InSpan}
 use Rattle.sf_groebner.proofs.Constructions.Reductions.{reduction_exists, reduction_zero}
 use Rattle.sf_matrix.specs.Plans.{Plan, answer}
-use Rattle.sf_matrix.specs.Questions.{rest}
+use Rattle.sf_matrix.specs.Questions.{rest, is_zero}
 use Rattle.sf_matrix.specs.Runs.{Run, ends, asks}
 use Rattle.sf_matrix.proofs.Plans.Readings.{answer_is, ask_is}
-use Rattle.sf_object.specs.Faults.{IsFirstOutside, IsFirstOrNone, is_zero, outside_plan}
-use Rattle.sf_object.proofs.Zeros.{is_zero-true, is_zero-false}
+use Rattle.sf_matrix.proofs.Zeros.{is_zero-tests}
+use Rattle.sf_object.specs.Faults.{IsFirstOutside, IsFirstOrNone, outside_plan}
 
 module _ (m : Matrix) where
   -- behind a vector of the span
@@ -67,12 +67,14 @@ module _ (m : Matrix) where
     inside_of : (v : Vector) → IsVector m.ring m.target v → (w c : Vector) → IsReduction m v w c → is_zero w ≡ true
         → InSpan m v
     inside_of v vector w c reduction e =
-        (reduction_zero m (field_ring field) matrix v vector w c reduction).0 (is_zero-true w e)
+        (reduction_zero m (field_ring field) matrix v vector w c reduction).0 ((is_zero-tests w.terms).0 e)
 
     outside_of : (v : Vector) → IsVector m.ring m.target v → (w c : Vector) → IsReduction m v w c → is_zero w ≡ false
         → InSpan m v → ⊥
     outside_of v vector w c reduction e inside =
-        is_zero-false w e ((reduction_zero m (field_ring field) matrix v vector w c reduction).1 inside)
+        let none = (reduction_zero m (field_ring field) matrix v vector w c reduction).1 inside in
+        let zero = (is_zero-tests w.terms).1 none in
+        cc
 
     -- the numbers count from k
     abbrev from : ℕ → Option ℕ → Option ℕ

@@ -1,14 +1,13 @@
 -- Matrices between presented modules, and the first relation that isn't sent into relations. (homalg's convention: the rows of a
 -- matrix are relations, and maps act on row vectors from the right.)
-use Rattle.std.specs.Prelude.{◌≡◌, ℕ, suc, List, [], ◌∷◌, map, take, Bool, not, if◌then◌else◌, Option, Some, None, slice_get, ◌≤ℤ◌}
+use Rattle.std.specs.Prelude.{◌≡◌, ℕ, suc, List, [], ◌∷◌, map, take, if◌then◌else◌, Option, Some, None, slice_get, ◌≤ℤ◌}
 use Rattle.std.specs.List.{AllByRecursion}
 use Rattle.sf_algebra.specs.Matrices.{Matrix, row_degrees}
 use Rattle.sf_algebra.specs.Vectors.{Vector}
-use Rattle.sf_groebner.specs.Cuts.{has_terms}
 use Rattle.sf_groebner.specs.Spans.{InSpan, combined}
 use Rattle.sf_matrix.specs.Bounds.{DegreeFits}
 use Rattle.sf_matrix.specs.Plans.{Plan, answer, look, ask}
-use Rattle.sf_matrix.specs.Questions.{rest}
+use Rattle.sf_matrix.specs.Questions.{rest, is_zero}
 use Rattle.sf_matrix.specs.Tables.{GREATEST_REDUCED_DEGREE}
 use Rattle.sf_object.specs.declared.map.Map.{Map}
 
@@ -43,10 +42,6 @@ IsFirstOrNone m vs (Some k) = IsFirstOutside m vs k
 -- the first relation of the source that isn't sent into the span of the target's, or none where all are
 abbrev pub IsFirstFault : Map → Option ℕ → Type 0
 IsFirstFault f found = IsFirstOrNone f.target (images_of f) found
-
--- nothing is left of a vector
-abbrev pub is_zero : Vector → Bool
-is_zero v = not (has_terms v.terms)
 
 -- one vector after another, the first of which has the number k, is reduced by m, up to one of which something is left
 abbrev pub outside_plan : Matrix → ℕ → List Vector → Plan (Option ℕ)
