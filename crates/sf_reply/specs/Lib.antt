@@ -1,2 +1,1 @@
-pub mod Presented
 pub mod Texts

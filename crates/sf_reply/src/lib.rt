@@ -1,4 +1,4 @@
-//! The replies to the lines of a script, as values and as texts.
+//! The texts of replies.
 #![tactic(auto)]
 
 mod reply;
@@ -6,5 +6,5 @@ mod reply;
 mod tests;
 mod texts;
 
-pub use reply::{Presented, Reply};
-pub use texts::{refusal_text, reply_text};
+pub use reply::Reply;
+pub use texts::{fault_text, reply_text};

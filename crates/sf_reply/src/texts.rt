@@ -1,98 +1,111 @@
-ghost use Rattle.std.specs.Prelude.{◌≡◌, IfOk};
-ghost use Rattle.sf_reply.specs.Texts.{name_text, degree_text, large_text, refusal_text, module_text, rows_text, reply_text};
+ghost use Rattle.std.specs.Prelude.{◌≡◌, ◌++◌, IfOk, OnOk};
+ghost use Rattle.sf_algebra.specs.Printing.{degrees_text};
+ghost use Rattle.sf_reply.specs.Texts.{name_text, number_text, large_text, fault_text, module_text, rows_text, reply_text};
 
-use crate::reply::{Presented, Reply};
+use crate::reply::Reply;
 use itoa::Buffer;
 use sf_field::OutOfMemory;
-use sf_matrix::Name;
-use sf_script::Refusal;
+use sf_matrix::{Matrix, Name};
+use sf_script::LineFault;
 use sf_text::{print_degrees, print_matrix};
 use std::alloc::Global;
 
-/// The text of a reply, with its LF.
-pub fn reply_text(alloc: Global, reply: &Reply<'_>) -> Result<Vec<u8>, OutOfMemory>
-    ensures { IfOk result (λ text. text.items ≡ reply_text reply.now) }
+/// The text of a reply, with its LF, where the ring's variables have these names.
+pub fn reply_text(alloc: Global, reply: &Reply, names: &[Name]) -> Result<Vec<u8>, OutOfMemory>
+    ensures { IfOk result (λ text. text.items ≡ reply_text names.now reply.now) }
 {
+    let mut out = Vec::new(alloc);
     match reply {
-        Reply::Accepted => Ok(Vec::from_slice(alloc, b"ok\n")?),
-        Reply::Malformed => Ok(Vec::from_slice(alloc, b"error syntax 0\n")?),
-        Reply::Refused(refusal) => refusal_text(alloc, refusal),
-        Reply::Module(presented) => module_text(alloc, presented),
-        Reply::Basis(basis) => rows_text(alloc, b"basis ", basis),
-        Reply::Syz(syzygies) => rows_text(alloc, b"syz ", syzygies),
-        Reply::Member(true) => Ok(Vec::from_slice(alloc, b"member yes\n")?),
-        Reply::Member(false) => Ok(Vec::from_slice(alloc, b"member no\n")?),
-        Reply::Lift(lift) => rows_text(alloc, b"lift ", lift),
+        Reply::Accepted => out.extend_from_slice(b"ok\n")?,
+        Reply::ShowModule { relations } => push_module(&mut out, names, relations)?,
+        Reply::ShowMap { matrix } => push_rows(&mut out, b"map ", names, matrix)?,
+        Reply::Basis { matrix } => push_rows(&mut out, b"basis ", names, matrix)?,
+        Reply::Syz { matrix } => push_rows(&mut out, b"syz ", names, matrix)?,
+        Reply::Lift { matrix } => push_rows(&mut out, b"lift ", names, matrix)?,
+        Reply::Member { yes: true } => out.extend_from_slice(b"member yes\n")?,
+        Reply::Member { yes: false } => out.extend_from_slice(b"member no\n")?,
+        Reply::Pair { gens, rels } => {
+            push_rows(&mut out, b"gens ", names, gens)?;
+            push_rows(&mut out, b"rels ", names, rels)?;
+        }
     }
+    Ok(out)
 }
 
-/// The reply to a line that is refused, with its LF.
-pub fn refusal_text(alloc: Global, refusal: &Refusal) -> Result<Vec<u8>, OutOfMemory>
-    ensures { IfOk result (λ text. text.items ≡ refusal_text refusal.now) }
+/// Appends the reply to a line that is refused, with its LF. Where memory runs out, a beginning of it may have been appended.
+pub fn fault_text(fault: &LineFault, out: &mut Vec<u8>) -> Result<(), OutOfMemory>
+    ensures { OnOk result (out.new.items ≡ out.old.items ++ fault_text fault.now) }
 {
-    match refusal {
-        Refusal::Unbuilt => Ok(Vec::from_slice(alloc, b"error later\n")?),
-        Refusal::Heading => Ok(Vec::from_slice(alloc, b"error ring\n")?),
-        Refusal::Unknown(name) => name_text(alloc, b"error name ", name),
-        Refusal::Taken(name) => name_text(alloc, b"error taken ", name),
-        Refusal::Shape => Ok(Vec::from_slice(alloc, b"error shape\n")?),
-        Refusal::Degree(row) => degree_text(alloc, *row),
-        Refusal::Range => Ok(Vec::from_slice(alloc, b"error range\n")?),
-        Refusal::NotInSpan => Ok(Vec::from_slice(alloc, b"error none\n")?),
-        Refusal::Large { rows, cols } => large_text(alloc, *rows, *cols),
+    match fault {
+        LineFault::Syntax { col } => push_number(out, b"error syntax ", *col as u64)?,
+        LineFault::Later => out.extend_from_slice(b"error later\n")?,
+        LineFault::Ring => out.extend_from_slice(b"error ring\n")?,
+        LineFault::Unknown { name } => push_name(out, b"error name ", name)?,
+        LineFault::Kind { name } => push_name(out, b"error kind ", name)?,
+        LineFault::Taken { name } => push_name(out, b"error taken ", name)?,
+        LineFault::Shape => out.extend_from_slice(b"error shape\n")?,
+        LineFault::Degree { row } => push_number(out, b"error degree ", *row)?,
+        LineFault::NotMap { relation } => push_number(out, b"error map ", *relation)?,
+        LineFault::Range => out.extend_from_slice(b"error range\n")?,
+        LineFault::NotInSpan => out.extend_from_slice(b"error none\n")?,
+        LineFault::Large { rows, cols } => push_large(out, *rows, *cols)?,
     }
+    Ok(())
 }
 
-/// A name behind these words.
-fn name_text(alloc: Global, words: &[u8], name: &Name) -> Result<Vec<u8>, OutOfMemory>
-    ensures { IfOk result (λ text. text.items ≡ name_text words.now name.now) }
+/// Appends a name behind these words.
+fn push_name(out: &mut Vec<u8>, words: &[u8], name: &Name) -> Result<(), OutOfMemory>
+    ensures { OnOk result (out.new.items ≡ out.old.items ++ name_text words.now name.now) }
 {
-    let mut text = Vec::from_slice(alloc, words)?;
-    text.extend_from_slice(name.as_str().as_bytes())?;
-    text.push(b'\n')?;
-    Ok(text)
+    out.extend_from_slice(words)?;
+    out.extend_from_slice(name.as_str().as_bytes())?;
+    out.push(b'\n')?;
+    Ok(())
 }
 
-fn large_text(alloc: Global, rows: u64, cols: u64) -> Result<Vec<u8>, OutOfMemory>
-    ensures { IfOk result (λ text. text.items ≡ large_text rows cols) }
+/// Appends a number behind these words.
+fn push_number(out: &mut Vec<u8>, words: &[u8], number: u64) -> Result<(), OutOfMemory>
+    ensures { OnOk result (out.new.items ≡ out.old.items ++ number_text words.now number) }
 {
     let mut buffer = Buffer::new();
-    let mut text = Vec::from_slice(alloc, b"error large ")?;
-    text.extend_from_slice(buffer.format(rows).as_bytes())?;
-    text.push(b' ')?;
-    text.extend_from_slice(buffer.format(cols).as_bytes())?;
-    text.push(b'\n')?;
-    Ok(text)
+    out.extend_from_slice(words)?;
+    out.extend_from_slice(buffer.format(number).as_bytes())?;
+    out.push(b'\n')?;
+    Ok(())
 }
 
-fn degree_text(alloc: Global, row: u64) -> Result<Vec<u8>, OutOfMemory>
-    ensures { IfOk result (λ text. text.items ≡ degree_text row) }
+fn push_large(out: &mut Vec<u8>, rows: u64, cols: u64) -> Result<(), OutOfMemory>
+    ensures { OnOk result (out.new.items ≡ out.old.items ++ large_text rows cols) }
 {
     let mut buffer = Buffer::new();
-    let mut text = Vec::from_slice(alloc, b"error degree ")?;
-    text.extend_from_slice(buffer.format(row).as_bytes())?;
-    text.push(b'\n')?;
-    Ok(text)
+    out.extend_from_slice(b"error large ")?;
+    out.extend_from_slice(buffer.format(rows).as_bytes())?;
+    out.push(b' ')?;
+    out.extend_from_slice(buffer.format(cols).as_bytes())?;
+    out.push(b'\n')?;
+    Ok(())
 }
 
-/// A matrix behind these words.
-fn rows_text(alloc: Global, words: &[u8], rows: &Presented<'_>) -> Result<Vec<u8>, OutOfMemory>
-    ensures { IfOk result (λ text. text.items ≡ rows_text words.now rows.now) }
+/// Appends a matrix behind these words.
+fn push_rows(
+    out: &mut Vec<u8>,
+    words: &[u8],
+    names: &[Name],
+    matrix: &Matrix,
+) -> Result<(), OutOfMemory>
+    ensures { OnOk result (out.new.items ≡ out.old.items ++ rows_text words.now names.now matrix.now) }
 {
-    let mut text = Vec::from_slice(alloc, words)?;
-    print_matrix(&mut text, rows.names, rows.relations)?;
-    text.push(b'\n')?;
-    Ok(text)
+    out.extend_from_slice(words)?;
+    print_matrix(out, names, matrix)?;
+    out.push(b'\n')?;
+    Ok(())
 }
 
-fn module_text(alloc: Global, presented: &Presented<'_>) -> Result<Vec<u8>, OutOfMemory>
-    ensures { IfOk result (λ text. text.items ≡ module_text presented.now) }
+fn push_module(out: &mut Vec<u8>, names: &[Name], relations: &Matrix) -> Result<(), OutOfMemory>
+    ensures { OnOk result (out.new.items ≡ out.old.items ++ module_text names.now relations.now) }
 {
-    let relations = presented.relations;
-    let mut text = Vec::from_slice(alloc, b"degrees ")?;
-    print_degrees(&mut text, relations.target().degrees.as_slice())?;
-    text.extend_from_slice(b"\nrels ")?;
-    print_matrix(&mut text, presented.names, relations)?;
-    text.push(b'\n')?;
-    Ok(text)
+    out.extend_from_slice(b"degrees ")?;
+    print_degrees(out, relations.target().degrees.as_slice())?;
+    out.push(b'\n')?;
+    push_rows(out, b"rels ", names, relations)
 }

@@ -1,3 +1,5 @@
-pub mod Definitions
-pub mod Reasons
-pub mod VectorsGiven
+pub mod FoundNames
+pub mod KindReaches
+pub mod Lines
+pub mod PutNames
+pub mod Tables

@@ -8,8 +8,8 @@ use Rattle.sf_text.specs.declared.ring.Ring.{Ring}
 use Rattle.sf_script.specs.declared.heads.Heads.TheVariants.{Unopened, Opened, Within}
 use Rattle.sf_script.specs.declared.heads.Heads.{Heads}
 use Rattle.sf_script.specs.declared.heads.Setting.{Setting}
-use Rattle.sf_script.specs.declared.refusal.Refusal.TheVariants.{Heading, Range}
-use Rattle.sf_script.specs.declared.refusal.Refusal.{Refusal}
+use Rattle.sf_script.specs.declared.fault.LineFault.TheVariants as faults
+use Rattle.sf_script.specs.declared.fault.LineFault.{LineFault}
 
 -- what is settled with the ring, where it was given
 abbrev pub setting_of : Heads → Option Setting
@@ -43,9 +43,9 @@ abbrev pub DEFAULT_LIMIT : ℕ
 DEFAULT_LIMIT = 40
 
 -- the headings once the ring is given
-abbrev pub ring_entered : ℕ → List (List ℕ) → Heads
-ring_entered modulus names = Within (record {
-  ring = record { modulus = modulus; names = names };
+abbrev pub ring_entered : Ring → Heads
+ring_entered ring = Within (record {
+  ring = ring;
   limit = DEFAULT_LIMIT;
   limited = false;
   noted = false;
@@ -55,15 +55,19 @@ ring_entered modulus names = Within (record {
 abbrev pub is_limit : ℤ → Bool
 is_limit limit = int_le (pos 1) limit && int_le limit (pos 60)
 
--- the headings with this limit, or why it is refused: it is given once, and before any other line with a reply that
--- comes after the ring
-abbrev pub limited : Heads → ℤ → Result Heads Refusal
-limited Unopened limit = Err Heading
-limited Opened limit = Err Heading
-limited (Within setting) limit =
-    if setting.limited || setting.noted then Err Heading
-    else (if is_limit limit then Ok (Within (record setting { limit = unsigned_abs limit; limited = true }))
-    else Err Range)
+-- the limit that is given, or why it is refused: it is given once, and before any other line with a reply that comes after the ring
+abbrev pub limit_entered : Heads → ℤ → Result ℕ LineFault
+limit_entered Unopened limit = Err faults.Ring
+limit_entered Opened limit = Err faults.Ring
+limit_entered (Within setting) limit =
+    if setting.limited || setting.noted then Err faults.Ring
+    else (if is_limit limit then Ok (unsigned_abs limit) else Err faults.Range)
+
+-- the headings with this limit
+abbrev pub limited : ℕ → Heads → Heads
+limited limit Unopened = Unopened
+limited limit Opened = Opened
+limited limit (Within setting) = Within (record setting { limit = limit; limited = true })
 
 -- after another line with a reply no limit can be given any more
 abbrev pub noted : Heads → Heads
@@ -71,7 +75,7 @@ noted Unopened = Unopened
 noted Opened = Opened
 noted (Within setting) = Within (record setting { noted = true })
 
--- a ring has a variable, and room for its variables
+-- a ring has from one to six variables
 abbrev pub HasFewVariables : Heads → Type 0
 HasFewVariables Unopened = Unit {0}
 HasFewVariables Opened = Unit {0}

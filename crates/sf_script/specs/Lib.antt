@@ -1,3 +1,9 @@
-pub mod Grammar
 pub mod Headings
+pub mod Names
 pub mod Refusals
+pub mod SmallTerms
+pub mod Kinds
+pub mod Grammar
+pub mod GrammarLaws
+pub mod Tables
+pub mod Readings

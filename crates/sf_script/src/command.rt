@@ -1,6 +1,17 @@
 use sf_matrix::{List, Name};
 use sf_text::RawMatrix;
 
+/// What a query asks for that presents a module, so that the module may be given a name.
+#[derive(Debug, Drop)]
+pub enum Query {
+    /// The kernel of a map.
+    Kernel { name: Name },
+    /// The image of a map.
+    Image { name: Name },
+    /// The cokernel of a map.
+    Coker { name: Name },
+}
+
 /// What a line of the grammar asks for.
 #[derive(Debug, Drop)]
 pub enum Command {
@@ -23,6 +34,23 @@ pub enum Command {
         degrees: List<i32>,
         relations: RawMatrix,
     },
+    /// A map of modules: where the generators of the source go, a row each.
+    Map {
+        name: Name,
+        source: Name,
+        target: Name,
+        matrix: RawMatrix,
+    },
+    /// A name for the module that a query presents.
+    Let {
+        name: Name,
+        query: Query,
+    },
+    /// The module that a query presents.
+    Ask {
+        query: Query,
+    },
+    /// The relations of a module, or the matrix of a map.
     Show {
         name: Name,
     },
@@ -48,12 +76,9 @@ pub enum Command {
     Later,
 }
 
-/// What a line of a script is.
+/// A line of the grammar: its client, without a byte where none is written, and what it asks for.
 #[derive(Debug, Drop)]
-pub enum Line {
-    /// It has no reply.
-    Silent,
-    /// It isn't in the grammar.
-    Malformed,
-    Read(Command),
+pub struct Line {
+    pub client: Name,
+    pub command: Command,
 }

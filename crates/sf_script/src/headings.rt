@@ -1,8 +1,8 @@
 ghost use Rattle.std.specs.Prelude.{◌≡◌, IsTrue, SomeIff, option_copied, Some, MatchOption, MatchResult};
-ghost use Rattle.sf_script.specs.Headings.{setting_of, ring_of, opens, enters, are_distinct, is_limit, limited, noted};
+ghost use Rattle.sf_script.specs.Headings.{setting_of, ring_of, opens, enters, are_distinct, is_limit, limit_entered, limited, noted};
 
+use crate::fault::LineFault;
 use crate::heads::{Heads, Setting};
-use crate::refusal::Refusal;
 use sf_field::Modulus;
 use sf_matrix::Name;
 use sf_text::Ring;
@@ -63,29 +63,28 @@ fn are_distinct(names: &[Name]) -> bool
     }
 }
 
-/// The first reason to refuse a limit, where there is one.
-pub fn limit_refusal(heads: &Heads, limit: i32) -> Option<Refusal>
-    ensures { MatchResult (limited heads.now limit) (λ after. result ≡ None) (λ refusal. result ≡ Some refusal) }
+/// The limit that is given, from 1 to 60, or the first reason to refuse it.
+pub fn entered_limit(heads: &Heads, limit: i32) -> Result<u32, LineFault>
+    ensures { result ≡ limit_entered heads.now limit }
 {
     match heads {
         Heads::Within(setting) if !setting.limited && !setting.noted => {
             if 1 <= limit && limit <= 60 {
-                None
+                Ok(limit.unsigned_abs())
             } else {
-                Some(Refusal::Range)
+                Err(LineFault::Range)
             }
         }
-        _ => Some(Refusal::Heading),
+        _ => Err(LineFault::Ring),
     }
 }
 
-/// Sets a limit that isn't refused.
-pub fn set_limit(heads: &mut Heads, limit: i32)
-    requires { MatchResult (limited heads.old limit) (λ after. Unit) (λ refusal. ⊥) }
-    ensures { limited heads.old limit ≡ Ok heads.new }
+/// Sets the limit.
+pub fn set_limit(heads: &mut Heads, limit: u32)
+    ensures { heads.new ≡ limited limit heads.old }
 {
     if let Heads::Within(setting) = heads {
-        setting.limit = limit.unsigned_abs();
+        setting.limit = limit;
         setting.limited = true;
     }
 }

@@ -15,6 +15,7 @@ pub struct Setting {
 /// Which headings were accepted.
 #[derive(Debug, Drop)]
 pub enum Heads {
+    /// Nothing was given yet.
     Unopened,
     /// The version was given.
     Opened,

@@ -1,20 +1,26 @@
-//! What a line of a script is, what its headings are, and for which reason it is refused first.
+//! What a line of a script is, what its headings and names are, and for which reason it is refused first.
 #![tactic(auto)]
 
+mod check;
+mod checked;
 mod command;
-mod defining;
+mod env;
+mod fault;
+mod forms;
 mod headings;
 mod heads;
+mod laws;
+mod named;
 mod reading;
-mod refusal;
-#[cfg(test)]
-mod tests;
 
-pub use command::{Command, Line};
-pub use defining::{relations_of, vector_of};
-pub use headings::{
-    can_open, entered_modulus, limit_refusal, note, ring_of, set_limit, setting_of,
-};
+pub use check::check_line;
+pub use checked::{Checked, CheckedQuery};
+pub use command::{Command, Line, Query};
+pub use env::Env;
+pub use fault::LineFault;
+pub use forms::Kind;
 pub use heads::{Heads, Setting};
+pub use laws::{columns_of_lines, commands_are_of_forms};
+pub use named::Named;
 pub use reading::read_line;
-pub use refusal::Refusal;
+pub use sf_text::ReadText;

@@ -1,217 +1,38 @@
--- A line carries over from one state to each that agrees with it: same reply, and the states after it agree.
-use Rattle.std.proofs.Common.{◌≡◌, ℕ, List, [], ◌∷◌, ◌++◌, Bool, true, false, Option, Some, None, Result, Ok, Err, refl, sym, ◌∙◌, subst, ℤ}
-use Rattle.std.specs.Prelude.{MatchOption, MatchResult}
-use Rattle.std.specs.Bool.{MatchBool}
+-- The reply to a line that gives no limit is fixed by the accepted headings and the names, and a query changes neither.
+use Rattle.std.proofs.Common.{◌≡◌, ℕ, Bool, true, false, if◌then◌else◌, List, [], ◌∷◌, ◌++◌, Option, Some, None, Result, Ok, Err, refl, sym, ap, ◌∙◌, subst}
 use Rattle.std.specs.List.{AllByRecursion}
+use Rattle.std.specs.Prelude.{MatchResult}
 use Rattle.sf_algebra.specs.Matrices.{Matrix}
 use Rattle.sf_algebra.specs.Vectors.{Vector}
-use Rattle.sf_matrix.specs.declared.basis.BaseFault.TheVariants as faults
-use Rattle.sf_matrix.specs.declared.basis.BaseFault.TheVariants.{Memory}
+use Rattle.sf_matrix.specs.declared.basis.BaseFault.TheVariants as ends
 use Rattle.sf_matrix.specs.declared.basis.BaseFault.{BaseFault}
 use Rattle.sf_matrix.specs.Runs.{Run}
-use Rattle.sf_text.specs.Raw.{RawTerm}
-use Rattle.sf_script.specs.Grammar.{line_of}
-use Rattle.sf_script.specs.Headings.{enters, noted, opens, ring_entered, ring_of}
-use Rattle.sf_script.specs.Refusals.{definition, module_named, vector_given}
-use Rattle.sf_script.specs.declared.command.Command.TheVariants.{Spectral, Ring, Limit, Module, Show, Basis, Syz, Member, Lift, Later}
+use Rattle.sf_script.specs.Grammar.{Reading, Silent, Malformed, Read, line_of}
+use Rattle.sf_script.specs.Headings.{limited, noted}
+use Rattle.sf_script.specs.Names.{Env}
+use Rattle.sf_script.specs.Refusals.{checked, checked_query, checked_name, module_named, checked_vector}
+use Rattle.sf_script.specs.declared.checked.Checked.TheVariants as checks
+use Rattle.sf_script.specs.declared.checked.Checked.{Checked}
+use Rattle.sf_script.specs.declared.command.Command.TheVariants.{Spectral, Ring, Limit, Module, Map, Let, Ask, Show, Basis, Syz, Member, Lift, Later}
 use Rattle.sf_script.specs.declared.command.Command.{Command}
-use Rattle.sf_script.specs.declared.command.Line.TheVariants.{Silent, Malformed, Read}
 use Rattle.sf_script.specs.declared.command.Line.{Line}
+use Rattle.sf_script.specs.declared.fault.LineFault.TheVariants as faults
+use Rattle.sf_script.specs.declared.fault.LineFault.{LineFault}
 use Rattle.sf_script.specs.declared.heads.Heads.TheVariants.{Unopened, Opened, Within}
 use Rattle.sf_script.specs.declared.heads.Heads.{Heads}
 use Rattle.sf_script.specs.declared.heads.Setting.{Setting}
-use Rattle.sf_script.specs.declared.refusal.Refusal.TheVariants.{Unbuilt, Heading, Unknown, Large}
-use Rattle.sf_script.specs.declared.refusal.Refusal.{Refusal}
-use Rattle.sf_reply.specs.Texts.{reply_text}
-use Rattle.sf_reply.specs.declared.reply.Reply.TheVariants as told
-use Rattle.sf_session.specs.Agreement.{Agree, gives_limit, gives_limit_command, is_query, is_query_command, with_note}
-use Rattle.sf_session.specs.Laws.{ChangesNoAnswer, GivesNoLimit, IsFixedByNames}
-use Rattle.sf_session.specs.Replies.{Answered, Carried, Given, Queried, Step, Writes, reply_of}
-use Rattle.sf_session.specs.Requests.{Request, asked_of, asked_with, module_request, named_in, vector_request}
+use Rattle.sf_session.specs.Agreement.{Agree, with_note, gives_limit, gives_limit_command, is_query, is_query_command}
+use Rattle.sf_session.specs.Laws.{IsFixedByNames, ChangesNoAnswer, GivesNoLimit}
+use Rattle.sf_session.specs.Outcomes.{outcome, outcome_text, refused, state_after}
+use Rattle.sf_session.specs.Replies.{Comes, Given, Executed, Carried, Answered, Step}
 use Rattle.sf_session.specs.Scripts.{Answers}
-use Rattle.sf_session.specs.State.{State, limit_of, looking_state, noted_state, start}
-use Rattle.sf_session.specs.Tasks.{Task, Found, plan_of, basis, syzygies, membership, lift}
-use Rattle.sf_session.proofs.OneOutput.{Answers-append, IsOne-Answers}
-use Rattle.sf_session.proofs.OneReply.{IsOne-Step}
-
--- a relation between a reply and a state carries over to another one
-abbrev CarriesOver : (List ℕ → State → Type 0) → (List ℕ → State → Type 0) → Type 0
-CarriesOver P Q = (text : List ℕ) (new : State) → P text new → (other : State) × Q text other × Agree new other
-
-writes_over : (text : List ℕ) (s t : State) → Agree s t → CarriesOver (Writes text s) (Writes text t)
-writes_over text s t agree other new h = (t, (h.0, refl), subst (λ u. Agree u t) (sym h.1) agree)
-
-bool_over : (b : Bool) {P Q R S : List ℕ → State → Type 0} → CarriesOver P R → CarriesOver Q S
-    → CarriesOver (λ text new. MatchBool b (P text new) (Q text new)) (λ text new. MatchBool b (R text new) (S text new))
-bool_over true p q = p
-bool_over false p q = q
-
-option_over : {X : Type 0} (o : Option X) {P R : List ℕ → State → Type 0} {Q S : X → List ℕ → State → Type 0} → CarriesOver P R
-    → ((x : X) → CarriesOver (Q x) (S x))
-    → CarriesOver (λ text new. MatchOption o (P text new) (λ x. Q x text new)) (λ text new. MatchOption o (R text new) (λ x. S x text new))
-option_over None p q = p
-option_over (Some x) p q = q x
-
-result_over : {X E : Type 0} (r : Result X E) {P R : X → List ℕ → State → Type 0} {Q S : E → List ℕ → State → Type 0}
-    → ((x : X) → CarriesOver (P x) (R x)) → ((e : E) → CarriesOver (Q e) (S e))
-    → CarriesOver (λ text new. MatchResult r (λ x. P x text new) (λ e. Q e text new))
-    (λ text new. MatchResult r (λ x. R x text new) (λ e. S e text new))
-result_over (Ok x) p q = p x
-result_over (Err e) p q = q e
-
--- noted states agree where the states do
-noted_note : (b c : Bool) (heads : Heads) → with_note b (noted (with_note c heads)) ≡ with_note b (noted heads)
-noted_note b c Unopened = refl
-noted_note b c Opened = refl
-noted_note b c (Within setting) = refl
-
-note_note : (b c : Bool) (heads : Heads) → with_note b (with_note c heads) ≡ with_note b heads
-note_note b c Unopened = refl
-note_note b c Opened = refl
-note_note b c (Within setting) = refl
-
-noted_same : (heads : Heads) → with_note false (noted heads) ≡ with_note false heads
-noted_same Unopened = refl
-noted_same Opened = refl
-noted_same (Within setting) = refl
-
-limit_same : (b : Bool) (heads : Heads) → limit_of heads ≡ limit_of (with_note b heads)
-limit_same b Unopened = refl
-limit_same b Opened = refl
-limit_same b (Within setting) = refl
-
-opens_same : (b : Bool) (heads : Heads) (version : ℤ) → opens (with_note b heads) version ≡ opens heads version
-opens_same b Unopened version = refl
-opens_same b Opened version = refl
-opens_same b (Within setting) version = refl
-
-enters_same : (b : Bool) (heads : Heads) (modulus : ℕ) (names : List (List ℕ))
-    → enters (with_note b heads) modulus names ≡ enters heads modulus names
-enters_same b Unopened modulus names = refl
-enters_same b Opened modulus names = refl
-enters_same b (Within setting) modulus names = refl
-
-ring_same : (b : Bool) (heads : Heads) → ring_of (with_note b heads) ≡ ring_of heads
-ring_same b Unopened = refl
-ring_same b Opened = refl
-ring_same b (Within setting) = refl
-
-module_same : (task : Matrix → Task) (b : Bool) (heads : Heads) (modules : List (List ℕ × Matrix)) (name : List ℕ)
-    → module_request task (with_note b heads) modules name ≡ module_request task heads modules name
-module_same task b Unopened modules name = refl
-module_same task b Opened modules name = refl
-module_same task b (Within setting) modules name = by (module_named name modules)
-  where
-    by : (p : Option Matrix)
-        → asked_of (λ s m. Ok (record { names = s.ring.names; task = task m })) (named_in (Some (record setting { noted = b })) name p)
-        ≡ asked_of (λ s m. Ok (record { names = s.ring.names; task = task m })) (named_in (Some setting) name p)
-    by None = refl
-    by (Some relations) = refl
-
-vector_same : (task : Matrix → Vector → Task) (b : Bool) (heads : Heads) (modules : List (List ℕ × Matrix)) (name : List ℕ)
-    (rows : List (List (List RawTerm)))
-    → vector_request task (with_note b heads) modules name rows ≡ vector_request task heads modules name rows
-vector_same task b Unopened modules name rows = refl
-vector_same task b Opened modules name rows = refl
-vector_same task b (Within setting) modules name rows = by (module_named name modules)
-  where
-    with_vector : (m : Matrix) (r : Result Vector Refusal)
-        → asked_with (record setting { noted = b }) (task m) r ≡ asked_with setting (task m) r
-    with_vector m (Ok v) = refl
-    with_vector m (Err refusal) = refl
-
-    by : (p : Option Matrix)
-        → asked_of (λ s m. asked_with s (task m) (vector_given s.ring m.target rows)) (named_in (Some (record setting { noted = b })) name p)
-        ≡ asked_of (λ s m. asked_with s (task m) (vector_given s.ring m.target rows)) (named_in (Some setting) name p)
-    by None = refl
-    by (Some relations) = with_vector relations (vector_given setting.ring relations.target rows)
-
-abbrev state : Heads → List (List ℕ × Matrix) → List Matrix → State
-state heads modules looked = record { heads = heads; modules = modules; looked = looked }
-
--- from a state to that with another note and other looks
-module _ (b : Bool) (heads : Heads) (modules : List (List ℕ × Matrix)) (looked others : List Matrix) where
-  abbrev OverBoth : (State → List ℕ → State → Type 0) → Type 0
-  OverBoth P = CarriesOver (P (state heads modules looked)) (P (state (with_note b heads) modules others))
-
-  said_over : (text : List ℕ) → OverBoth (λ s. Writes text (noted_state s))
-  said_over text =
-      writes_over text (noted_state (state heads modules looked)) (noted_state (state (with_note b heads) modules others))
-      (record { heads = sym (noted_note false b heads); modules = refl })
-
-  given_over : (names : List (List ℕ)) (t : Task) (ms : List Matrix) (end : Result (Found t) BaseFault)
-      → OverBoth (λ s. Given names t (looking_state s ms) end)
-  given_over names t ms (Ok a) text new h =
-      let over =
-      writes_over (reply_text (reply_of names t h.0)) (looking_state (state heads modules looked) ms)
-      (looking_state (state (with_note b heads) modules others) ms) (record { heads = sym (noted_note false b heads); modules = refl })
-      text new h.2 in
-      (over.0, (h.0, h.1, over.1), over.2)
-  given_over names t ms (Err Memory) text new h = absurd h
-  given_over names t ms (Err (faults.Large rows columns)) text new h =
-      writes_over (reply_text (told.Refused (Large rows columns))) (looking_state (state heads modules looked) ms)
-      (looking_state (state (with_note b heads) modules others) ms) (record { heads = sym (noted_note false b heads); modules = refl })
-      text new h
-
-  queried_over : (r : Result Request Refusal) → OverBoth (Queried r)
-  queried_over (Ok request) text new h =
-      let over = given_over request.names request.task h.looked h.end text new h.given in (
-        over.0,
-        record {
-          looked = h.looked;
-          end = h.end;
-          run = subst (λ limit. Run limit (plan_of request.task) h.looked h.end) (limit_same b heads) h.run;
-          given = over.1;
-        },
-        over.2,
-      )
-  queried_over (Err refusal) text new h = said_over (reply_text (told.Refused refusal)) text new h
-
-  accepted_over : (s t : State) → Agree s t → CarriesOver (Writes (reply_text told.Accepted) s) (Writes (reply_text told.Accepted) t)
-  accepted_over s t agree = writes_over (reply_text told.Accepted) s t agree
-
-  carried_over : (command : Command) → gives_limit_command command ≡ false → OverBoth (Carried command)
-  carried_over (Spectral version) e =
-      rw (opens_same b heads version)
-      (bool_over (opens heads version)
-      (accepted_over (state Opened modules looked) (state Opened modules others) (record { heads = refl; modules = refl }))
-      (said_over (reply_text (told.Refused Heading))))
-  carried_over (Ring modulus names) e =
-      rw (enters_same b heads modulus names)
-      (bool_over (enters heads modulus names)
-      (accepted_over (state (ring_entered modulus names) modules looked) (state (ring_entered modulus names) modules others) (record { heads = refl; modules = refl }))
-      (said_over (reply_text (told.Refused Heading))))
-  carried_over (Limit limit) e = cc
-  carried_over (Module name degrees relations) e =
-      rw (ring_same b heads)
-      (result_over (definition (ring_of heads) modules name degrees relations.rows)
-      (λ placed. accepted_over (state (noted heads) (modules ++ (name, placed) ∷ []) looked)
-      (state (noted (with_note b heads)) (modules ++ (name, placed) ∷ []) others)
-      (record { heads = sym (noted_note false b heads); modules = refl }))
-      (λ refusal. said_over (reply_text (told.Refused refusal))))
-  carried_over (Show name) e =
-      rw (ring_same b heads)
-      (option_over (ring_of heads) (said_over (reply_text (told.Refused Heading))) (λ ring.
-      option_over (module_named name modules) (said_over (reply_text (told.Refused (Unknown name)))) (λ relations.
-      said_over (reply_text (told.Module (record { names = ring.names; relations = relations }))))))
-  carried_over (Basis name) e =
-      rw (module_same basis b heads modules name) (queried_over (module_request basis heads modules name))
-  carried_over (Syz name) e =
-      rw (module_same syzygies b heads modules name) (queried_over (module_request syzygies heads modules name))
-  carried_over (Member name vector) e =
-      rw (vector_same membership b heads modules name vector.rows)
-      (queried_over (vector_request membership heads modules name vector.rows))
-  carried_over (Lift name vector) e =
-      rw (vector_same lift b heads modules name vector.rows)
-      (queried_over (vector_request lift heads modules name vector.rows))
-  carried_over Later e = said_over (reply_text (told.Refused Unbuilt))
-
-  answered_over : (line : Line) → gives_limit line ≡ false → OverBoth (Answered line)
-  answered_over Silent e =
-      writes_over [] (state heads modules looked) (state (with_note b heads) modules others)
-      (record { heads = sym (note_note false b heads); modules = refl })
-  answered_over Malformed e = said_over (reply_text told.Malformed)
-  answered_over (Read command) e = carried_over command e
+use Rattle.sf_session.specs.State.{State, start, limit_of, noted_state, variables_of, with_looks}
+use Rattle.sf_session.specs.Tasks.{Found, plan_of}
+use Rattle.sf_session.specs.declared.outcome.Outcome.TheVariants as outs
+use Rattle.sf_session.specs.declared.outcome.Outcome.{Outcome}
+use Rattle.sf_session.proofs.Checks.{both_ok}
+use Rattle.sf_session.proofs.OneOutput.{Answers-append, IsOne-Answers, answers_sound, start_sound}
+use Rattle.sf_session.proofs.OneReply.{IsOne, step_one}
 
 -- headings that agree differ in the note alone
 note_of : (h k : Heads) → with_note false h ≡ with_note false k → (b : Bool) × (k ≡ with_note b h)
@@ -229,59 +50,254 @@ note_of (Within setting) (Within other) e =
     same : (x y : Setting) → Within x ≡ Within y → x ≡ y
     same x y f = cc
 
+note_note : (b c : Bool) (h : Heads) → with_note b (with_note c h) ≡ with_note b h
+note_note b c Unopened = refl
+note_note b c Opened = refl
+note_note b c (Within setting) = refl
+
+noted_agrees : (b : Bool) (h : Heads) → with_note b (noted h) ≡ with_note b h
+noted_agrees b Unopened = refl
+noted_agrees b Opened = refl
+noted_agrees b (Within setting) = refl
+
+variables_agree : (b : Bool) (h : Heads) → variables_of (with_note b h) ≡ variables_of h
+variables_agree b Unopened = refl
+variables_agree b Opened = refl
+variables_agree b (Within setting) = refl
+
+limits_agree : (b : Bool) (h : Heads) → limit_of (with_note b h) ≡ limit_of h
+limits_agree b Unopened = refl
+limits_agree b Opened = refl
+limits_agree b (Within setting) = refl
+
+limited_agrees : (b : Bool) (n : ℕ) (h : Heads) → with_note b (limited n (with_note b h)) ≡ with_note b (limited n h)
+limited_agrees b n Unopened = refl
+limited_agrees b n Opened = refl
+limited_agrees b n (Within setting) = refl
+
+-- the same names, with headings that differ in the note
+abbrev noted_env : Bool → Env → Env
+noted_env b env = record env { heads = with_note b env.heads }
+
+-- but for a limit the tests of a line don't see the note
+checked_over : (b : Bool) (env : Env) (client : List ℕ) (command : Command) → gives_limit_command command ≡ false
+    → checked (noted_env b env) client command ≡ checked env client command
+checked_over b env client command none = by env.heads command none
+  where
+    by : (heads : Heads) (command : Command) → gives_limit_command command ≡ false
+        → checked (record env { heads = with_note b heads }) client command ≡ checked (record env { heads = heads }) client command
+    by Unopened command e = refl
+    by Opened command e = refl
+    by (Within setting) (Spectral version) e = refl
+    by (Within setting) (Ring modulus names) e = refl
+    by (Within setting) (Limit limit) e = cc
+    by (Within setting) (Module name degrees relations) e = refl
+    by (Within setting) (Map name source target matrix) e = refl
+    by (Within setting) (Let name query) e = asked query
+      where
+        asked : (q : _) → checked (record env { heads = with_note b (Within setting) }) client (Let name q)
+            ≡ checked (record env { heads = Within setting }) client (Let name q)
+        asked q = ap (λ r. r) refl
+    by (Within setting) (Ask query) e = refl
+    by (Within setting) (Show name) e = refl
+    by (Within setting) (Basis name) e = refl
+    by (Within setting) (Syz name) e = refl
+    by (Within setting) (Member name vector) e = refl
+    by (Within setting) (Lift name vector) e = refl
+    by (Within setting) Later e = refl
+
+-- a reply that one state gives the other gives too, and they go on to agree
+abbrev CarriesOver : (List ℕ → State → Type 0) → (List ℕ → State → Type 0) → Type 0
+CarriesOver P Q = (text : List ℕ) (new : State) → P text new → (other : State) × Q text other × Agree new other
+
+module _ (b : Bool) (s t : State) (heads : t.env.heads ≡ with_note b s.env.heads) (clients : t.env.clients ≡ s.env.clients) where
+  same_heads : (ms ns : List Matrix) → Agree (record s { looked = ms }) (record t { looked = ns })
+  same_heads ms ns = record {
+    heads = sym (ap (with_note false) heads ∙ note_note false b s.env.heads);
+    clients = sym clients;
+  }
+
+  noted_both : (ms ns : List Matrix) → Agree (noted_state (record s { looked = ms })) (noted_state (record t { looked = ns }))
+  noted_both ms ns = record {
+    heads = noted_agrees false s.env.heads ∙ (same_heads ms ns).heads ∙ sym (noted_agrees false t.env.heads);
+    clients = sym clients;
+  }
+
+  limited_both : (n : ℕ) → with_note false (limited n s.env.heads) ≡ with_note false (limited n t.env.heads)
+  limited_both n =
+      sym (limited_agrees false n s.env.heads)
+      ∙ ap (λ h. with_note false (limited n h)) (same_heads [] []).heads
+      ∙ limited_agrees false n t.env.heads
+
+  -- the same outcome leaves states that agree
+  after_both : (client : List ℕ) (out : Outcome) (ms ns : List Matrix)
+      → Agree (state_after client out (record s { looked = ms })) (state_after client out (record t { looked = ns }))
+  after_both client (outs.Tells reply) ms ns = noted_both ms ns
+  after_both client outs.Opens ms ns = record { heads = refl; clients = sym clients }
+  after_both client (outs.Enters ring) ms ns = record { heads = refl; clients = sym clients }
+  after_both client (outs.Limits n) ms ns = record { heads = limited_both n; clients = sym clients }
+  after_both client (outs.Defines name what) ms ns = record {
+    heads = (noted_both ms ns).heads;
+    clients = ap (λ cs. (state_after client (outs.Defines name what) (record s { env = record s.env { clients = cs } })).env.clients) (sym clients);
+  }
+  after_both client (outs.Refuses fault) ms ns = noted_both ms ns
+  after_both client (outs.Bars fault) ms ns = same_heads ms ns
+
+  comes_over : (client : List ℕ) (out : Outcome) (ms ns : List Matrix)
+      → CarriesOver (Comes client out (record s { looked = ms })) (Comes client out (record t { looked = ns }))
+  comes_over client out ms ns text new h = (
+    state_after client out (record t { looked = ns }),
+    (h.0 ∙ ap (λ names. outcome_text names out) (sym (ap variables_of heads ∙ variables_agree b s.env.heads)), refl),
+    subst (λ (u : State). Agree u (state_after client out (record t { looked = ns }))) (sym h.1) (after_both client out ms ns),
+  )
+
+  executed_over : (client : List ℕ) (c : Checked) → CarriesOver (Executed client c s) (Executed client c t)
+  executed_over client c text new h = by h.end h.run h.given
+    where
+      limit : limit_of s.env.heads ≡ limit_of t.env.heads
+      limit = sym (ap limit_of heads ∙ limits_agree b s.env.heads)
+
+      moved : (end : Result (Found c) BaseFault) → Run (limit_of s.env.heads) (plan_of c) h.looked end
+          → Run (limit_of t.env.heads) (plan_of c) h.looked end
+      moved end run = subst (λ n. Run n (plan_of c) h.looked end) limit run
+
+      by : (end : Result (Found c) BaseFault) → Run (limit_of s.env.heads) (plan_of c) h.looked end
+          → Given client c end (with_looks h.looked s) text new → (other : State) × Executed client c t text other × Agree new other
+      by (Ok a) run given =
+          let there = comes_over client (outcome c given.0) (with_looks h.looked s).looked (with_looks h.looked t).looked text new given.2 in
+          (there.0, record { looked = h.looked; end = Ok a; run = moved (Ok a) run; given = (given.0, given.1, there.1) }, there.2)
+      by (Err ends.Memory) run given = absurd given
+      by (Err (ends.Large rows cols)) run given =
+          let there = comes_over client (outs.Refuses (faults.Large rows cols)) (with_looks h.looked s).looked (with_looks h.looked t).looked text new given in
+          (there.0, record { looked = h.looked; end = Err (ends.Large rows cols); run = moved (Err (ends.Large rows cols)) run; given = there.1 }, there.2)
+
+  same_env : t.env ≡ noted_env b s.env
+  same_env = λ i. record { heads = heads i; clients = clients i }
+
+  carried_over : (client : List ℕ) (command : Command) → gives_limit_command command ≡ false
+      → CarriesOver (Carried client command s) (Carried client command t)
+  carried_over client command none text new h =
+      by (checked s.env client command)
+      (ap (λ env. checked env client command) same_env ∙ checked_over b s.env client command none) h
+    where
+      by : (r : Result Checked LineFault) → checked t.env client command ≡ r
+          → MatchResult r (λ c. Executed client c s text new) (λ fault. Comes client (refused command fault) s text new)
+          → (other : State) × Carried client command t text other × Agree new other
+      by (Ok c) e k = let there = executed_over client c text new k in (there.0, rw e there.1, there.2)
+      by (Err fault) e k =
+          let there = comes_over client (refused command fault) s.looked t.looked text new k in (there.0, rw e there.1, there.2)
+
+  answered_over : (line : List ℕ) (r : Reading) → gives_limit r ≡ false → CarriesOver (Answered line r s) (Answered line r t)
+  answered_over line Silent none text new h =
+      (t, (h.0, refl), subst (λ (u : State). Agree u t) (sym h.1) (same_heads s.looked t.looked))
+  answered_over line Malformed none text new h =
+      let there = comes_over [] (outs.Refuses (faults.Syntax h.0)) s.looked t.looked text new h.2 in
+      (there.0, (h.0, h.1, there.1), there.2)
+  answered_over line (Read l) none text new h = carried_over l.client l.command none text new h
+
 pub step_over : (s t : State) → Agree s t → (line : List ℕ) → GivesNoLimit line → CarriesOver (Step s line) (Step t line)
 step_over s t agree line none text new h =
-    let found = note_of s.heads t.heads agree.heads in
-    let there : t ≡ state (with_note found.0 s.heads) s.modules t.looked =
-    λ i. record { heads = found.1 i; modules = sym agree.modules i; looked = t.looked } in
-    subst (λ u. (other : State) × Step u line text other × Agree new other) (sym there)
-    (answered_over found.0 s.heads s.modules s.looked t.looked (line_of line) none text new h)
+    let found = note_of s.env.heads t.env.heads agree.heads in
+    answered_over found.0 s t found.1 (sym agree.clients) line (line_of line) none text new h
+
+-- a query tells something or is refused
+abbrev IsTold : Outcome → Type 0
+IsTold (outs.Tells reply) = Unit {0}
+IsTold outs.Opens = ⊥
+IsTold (outs.Enters ring) = ⊥
+IsTold (outs.Limits limit) = ⊥
+IsTold (outs.Defines name what) = ⊥
+IsTold (outs.Refuses fault) = Unit {0}
+IsTold (outs.Bars fault) = ⊥
+
+abbrev TellsAll : Checked → Type 0
+TellsAll c = (a : Found c) → IsTold (outcome c a)
+
+refused_told : (command : Command) → is_query_command command ≡ true → (fault : LineFault) → IsTold (refused command fault)
+refused_told (Spectral version) e fault = cc
+refused_told (Ring modulus names) e fault = cc
+refused_told (Limit limit) e fault = cc
+refused_told (Module name degrees relations) e fault = cc
+refused_told (Map name source target matrix) e fault = cc
+refused_told (Let name query) e fault = cc
+refused_told (Ask query) e fault = tt
+refused_told (Show name) e fault = tt
+refused_told (Basis name) e fault = tt
+refused_told (Syz name) e fault = tt
+refused_told (Member name vector) e fault = tt
+refused_told (Lift name vector) e fault = tt
+refused_told Later e fault = tt
+
+lift_told : (m : Matrix) (v : Vector) → TellsAll (checks.Lift m v)
+lift_told m v None = tt
+lift_told m v (Some c) = tt
+
+-- what a query asks for tells something
+asked_told : (env : Env) (client : List ℕ) (command : Command) (c : Checked) → is_query_command command ≡ true
+    → checked env client command ≡ Ok c → TellsAll c
+asked_told env client (Spectral version) c q e = cc
+asked_told env client (Ring modulus names) c q e = cc
+asked_told env client (Limit limit) c q e = cc
+asked_told env client (Module name degrees relations) c q e = cc
+asked_told env client (Map name source target matrix) c q e = cc
+asked_told env client (Let name query) c q e = cc
+asked_told env client (Ask query) c q e =
+    let u = both_ok (checked_query env client query) _ c e in
+    let same : checks.Asks u.0 ≡ c = cc in subst TellsAll same (λ a. tt)
+asked_told env client (Show name) c q e =
+    let u = both_ok (checked_name env client name) _ c e in
+    let same : checks.Shows u.0 ≡ c = cc in subst TellsAll same (λ a. tt)
+asked_told env client (Basis name) c q e =
+    let u = both_ok (module_named env client name) _ c e in
+    let same : checks.Basis u.0 ≡ c = cc in subst TellsAll same (λ a. tt)
+asked_told env client (Syz name) c q e =
+    let u = both_ok (module_named env client name) _ c e in
+    let same : checks.Syz u.0 ≡ c = cc in subst TellsAll same (λ a. tt)
+asked_told env client (Member name vector) c q e =
+    let u = both_ok (checked_vector env client name vector.rows) _ c e in
+    let same : checks.Member u.0.0 u.0.1 ≡ c = cc in subst TellsAll same (λ a. tt)
+asked_told env client (Lift name vector) c q e =
+    let u = both_ok (checked_vector env client name vector.rows) _ c e in
+    let same : checks.Lift u.0.0 u.0.1 ≡ c = cc in subst TellsAll same (lift_told u.0.0 u.0.1)
+asked_told env client Later c q e = cc
 
 -- a query keeps the headings and the names
 module _ (s : State) where
   abbrev Keeps : (List ℕ → State → Type 0) → Type 0
   Keeps P = (text : List ℕ) (new : State) → P text new → Agree s new
 
-  said_keeps : (text : List ℕ) → Keeps (Writes text (noted_state s))
-  said_keeps text other new h =
-      subst (Agree s) (sym h.1) (record { heads = sym (noted_same s.heads); modules = refl })
+  noted_keeps : (ms : List Matrix) → Agree s (noted_state (record s { looked = ms }))
+  noted_keeps ms = record { heads = sym (noted_agrees false s.env.heads); clients = refl }
 
-  given_keeps : (names : List (List ℕ)) (t : Task) (ms : List Matrix) (end : Result (Found t) BaseFault)
-      → Keeps (Given names t (looking_state s ms) end)
-  given_keeps names t ms (Ok a) text new h =
-      subst (Agree s) (sym h.2.1) (record { heads = sym (noted_same s.heads); modules = refl })
-  given_keeps names t ms (Err Memory) text new h = absurd h
-  given_keeps names t ms (Err (faults.Large rows columns)) text new h =
-      subst (Agree s) (sym h.1) (record { heads = sym (noted_same s.heads); modules = refl })
+  comes_keep : (client : List ℕ) (out : Outcome) → IsTold out → (ms : List Matrix) → Keeps (Comes client out (record s { looked = ms }))
+  comes_keep client (outs.Tells reply) told ms text new h = subst (Agree s) (sym h.1) (noted_keeps ms)
+  comes_keep client outs.Opens told ms text new h = absurd told
+  comes_keep client (outs.Enters ring) told ms text new h = absurd told
+  comes_keep client (outs.Limits limit) told ms text new h = absurd told
+  comes_keep client (outs.Defines name what) told ms text new h = absurd told
+  comes_keep client (outs.Refuses fault) told ms text new h = subst (Agree s) (sym h.1) (noted_keeps ms)
+  comes_keep client (outs.Bars fault) told ms text new h = absurd told
 
-  queried_keeps : (r : Result Request Refusal) → Keeps (Queried r s)
-  queried_keeps (Ok request) text new h = given_keeps request.names request.task h.looked h.end text new h.given
-  queried_keeps (Err refusal) text new h = said_keeps (reply_text (told.Refused refusal)) text new h
+  given_keeps : (client : List ℕ) (c : Checked) → TellsAll c → (ms : List Matrix) (end : Result (Found c) BaseFault)
+      → Keeps (Given client c end (record s { looked = ms }))
+  given_keeps client c told ms (Ok a) text new h = comes_keep client (outcome c h.0) (told h.0) ms text new h.2
+  given_keeps client c told ms (Err ends.Memory) text new h = absurd h
+  given_keeps client c told ms (Err (ends.Large rows cols)) text new h =
+      comes_keep client (outs.Refuses (faults.Large rows cols)) tt ms text new h
 
-  option_keeps : {X : Type 0} (o : Option X) {P : List ℕ → State → Type 0} {Q : X → List ℕ → State → Type 0} → Keeps P
-      → ((x : X) → Keeps (Q x)) → Keeps (λ text new. MatchOption o (P text new) (λ x. Q x text new))
-  option_keeps None p q = p
-  option_keeps (Some x) p q = q x
+  command_keeps : (client : List ℕ) (command : Command) → is_query_command command ≡ true → Keeps (Carried client command s)
+  command_keeps client command q text new h = by (checked s.env client command) refl h
+    where
+      by : (r : Result Checked LineFault) → checked s.env client command ≡ r
+          → MatchResult r (λ c. Executed client c s text new) (λ fault. Comes client (refused command fault) s text new) → Agree s new
+      by (Ok c) e k =
+          given_keeps client c (asked_told s.env client command c q e) (with_looks k.looked s).looked k.end text new k.given
+      by (Err fault) e k = comes_keep client (refused command fault) (refused_told command q fault) s.looked text new k
 
-  command_keeps : (command : Command) → is_query_command command ≡ true → Keeps (Carried command s)
-  command_keeps (Spectral version) e = cc
-  command_keeps (Ring modulus names) e = cc
-  command_keeps (Limit limit) e = cc
-  command_keeps (Module name degrees relations) e = cc
-  command_keeps (Show name) e =
-      option_keeps (ring_of s.heads) (said_keeps (reply_text (told.Refused Heading))) (λ ring.
-      option_keeps (module_named name s.modules) (said_keeps (reply_text (told.Refused (Unknown name)))) (λ relations.
-      said_keeps (reply_text (told.Module (record { names = ring.names; relations = relations })))))
-  command_keeps (Basis name) e = queried_keeps (module_request basis s.heads s.modules name)
-  command_keeps (Syz name) e = queried_keeps (module_request syzygies s.heads s.modules name)
-  command_keeps (Member name vector) e = queried_keeps (vector_request membership s.heads s.modules name vector.rows)
-  command_keeps (Lift name vector) e = queried_keeps (vector_request lift s.heads s.modules name vector.rows)
-  command_keeps Later e = said_keeps (reply_text (told.Refused Unbuilt))
-
-  line_keeps : (line : Line) → is_query line ≡ true → Keeps (Answered line s)
-  line_keeps Silent e text new h = subst (Agree s) (sym h.1) (record { heads = refl; modules = refl })
-  line_keeps Malformed e text new h = said_keeps (reply_text told.Malformed) text new h
-  line_keeps (Read command) e text new h = command_keeps command e text new h
+  line_keeps : (line : List ℕ) (r : Reading) → is_query r ≡ true → Keeps (Answered line r s)
+  line_keeps line Silent e text new h = subst (Agree s) (sym h.1) (record { heads = refl; clients = refl })
+  line_keeps line Malformed e text new h = comes_keep [] (outs.Refuses (faults.Syntax h.0)) tt s.looked text new h.2
+  line_keeps line (Read l) e text new h = command_keeps l.client l.command e text new h
 
 -- some lines carry over as one does
 answers_over : (s t : State) → Agree s t → (lines : List (List ℕ)) → AllByRecursion GivesNoLimit lines
@@ -294,19 +310,21 @@ answers_over s t agree (line ∷ lines) none out new h =
 
 pub fixed_by_names : IsFixedByNames
 fixed_by_names first others s t out more hs ht agree line none reply h =
-    let same = ((IsOne-Answers start first).only h.0 h.1 h.3).1 ∙ sym ((IsOne-Answers start first).only out s hs).1 in
+    let one = IsOne-Answers start start_sound first in
+    let same = (one.only h.0 h.1 h.3).1 ∙ sym (one.only out s hs).1 in
     let step = step_over s t agree line none reply h.2 (subst (λ u. Step u line reply h.2) same h.4) in
     (more, t, step.0, ht, step.1)
 
 turned : (s t : State) → Agree s t → Agree t s
-turned s t agree = record { heads = sym agree.heads; modules = sym agree.modules }
+turned s t agree = record { heads = sym agree.heads; clients = sym agree.clients }
 
 pub changes_no_answer : ChangesNoAnswer
 changes_no_answer earlier later query line asks none_later none reply =
-    let before = IsOne-Answers start earlier in
-    let asked = IsOne-Step before.state query in
-    let kept = line_keeps before.state (line_of query) asks asked.reply asked.state asked.met in
-    let after = IsOne-Answers before.state later in
+    let before = IsOne-Answers start start_sound earlier in
+    let sound = answers_sound start earlier before.reply before.state start_sound before.met in
+    let asked = step_one before.state query sound in
+    let kept = line_keeps before.state query (line_of query) asks asked.reply asked.state asked.met in
+    let after = IsOne-Answers before.state sound later in
     let over = answers_over before.state asked.state kept later none_later after.reply after.state after.met in
     let without = Answers-append start before.state after.state earlier later before.reply after.reply before.met after.met in
     let with_query =

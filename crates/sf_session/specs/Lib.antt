@@ -1,9 +1,11 @@
 pub mod State
+pub mod Sound
+pub mod Tasks
+pub mod SoundChecks
+pub mod Settling
+pub mod Outcomes
 pub mod Replies
 pub mod Scripts
 pub mod Laws
-pub mod Tasks
-pub mod Requests
 pub mod Cuts
-pub mod Telling
 pub mod Agreement

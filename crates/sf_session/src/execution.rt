@@ -3,6 +3,7 @@ ghost use Rattle.std.specs.Io.KnownBytes.{Appends, IsAtEnd};
 ghost use Rattle.sf_io.specs.Count.{Rose, RoseMore};
 ghost use Rattle.sf_io.specs.Pull.{Gives};
 ghost use Rattle.sf_session.specs.State.{start};
+ghost use Rattle.sf_text.specs.ReadTexts.{LONGEST_TEXT};
 ghost use Rattle.sf_session.specs.Scripts.{LONGEST, IsOutput, IsFront, IsWholeFront, Outcome, IsReadLength};
 
 use crate::session::Session;
@@ -133,7 +134,8 @@ fn is_run(word: &String) -> bool
 
 /// Answers the lines of a script in turn.
 fn answer_all<K: Sink>(session: &mut Session, script: &[u8], sink: &mut K) -> Result<(), Stop>
-    requires { session.old ≡ start }
+    requires start { session.old ≡ start }
+    requires short { length script.now ≤ LONGEST_TEXT }
     ensures ok { OnOk result ((out : List ℕ)
         × Appends (K.written sink.old) (K.written sink.new) out × IsOutput script.now out) }
     ensures sink { IsErrOf result Stop.Sink → ((out : List ℕ)

@@ -1,10 +1,11 @@
 //! A session answers the lines of a script one by one, and `run` answers a whole script.
 #![tactic(auto)]
 
-mod answers;
 mod execution;
 mod laws;
 mod looks;
+mod outcome;
+mod outcomes;
 mod session;
 #[cfg(test)]
 mod tests;

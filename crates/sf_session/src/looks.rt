@@ -1,38 +1,11 @@
-ghost use Rattle.std.specs.Prelude.{◌≡◌, ◌≤ℤ◌, Result};
+ghost use Rattle.std.specs.Prelude.{◌≤ℤ◌, Result};
 ghost use Rattle.sf_algebra.specs.Vectors.{IsVector};
-ghost use Rattle.sf_groebner.specs.Lifts.{IsLift};
-ghost use Rattle.sf_matrix.specs.Tables.{GREATEST_REDUCED_DEGREE};
 ghost use Rattle.sf_matrix.specs.Meets.{Meets};
-ghost use Rattle.sf_session.specs.Tasks.{basis_plan, syzygies_plan, membership_plan, lift_plan};
+ghost use Rattle.sf_matrix.specs.Tables.{GREATEST_REDUCED_DEGREE};
+ghost use Rattle.sf_session.specs.Tasks.{lift_plan, membership_plan};
 
-use sf_field::{Copied, OutOfMemory};
-use sf_matrix::{BaseFault, Bases, Free, List, Matrix, Vector, look, reduced};
+use sf_matrix::{BaseFault, Bases, Matrix, Vector, look, reduced};
 use std::alloc::Global;
-
-/// The reduced basis of the span of a matrix, over its target.
-pub fn basis_of<B: Bases>(alloc: Global, m: &Matrix, bases: &mut B) -> Result<Matrix, BaseFault>
-    ensures { Meets (B.table bases.old) (basis_plan m.now) result (B.table bases.new) }
-{
-    match look(alloc, m, bases)? {
-        None => Ok(Matrix::new(alloc, m.modulus(), m.target().copy(alloc)?)),
-        Some(entry) => Ok(bases.at(entry).basis.copy(alloc)?),
-    }
-}
-
-/// The reduced basis of the syzygies of a matrix, over the free module of its rows' degrees.
-pub fn syzygies_of<B: Bases>(alloc: Global, m: &Matrix, bases: &mut B) -> Result<Matrix, BaseFault>
-    ensures { Meets (B.table bases.old) (syzygies_plan m.now) result (B.table bases.new) }
-{
-    match look(alloc, m, bases)? {
-        None => {
-            let target = Free {
-                degrees: List::new(alloc),
-            };
-            Ok(Matrix::new(alloc, m.modulus(), target))
-        }
-        Some(entry) => Ok(bases.at(entry).syzygies.copy(alloc)?),
-    }
-}
 
 /// Whether a vector is in the span of a matrix.
 pub fn is_in_span<B: Bases>(

@@ -1,23 +1,30 @@
-ghost use Rattle.std.specs.Prelude.{◌≡◌, ◌≤◌, [], ◌∷◌, ◌++◌, length, IsTrue, IfOk, OnOk, OnErr, is_none};
-ghost use Rattle.std.specs.List.{list_all};
-ghost use Rattle.sf_text.specs.Placed.{is_written_degree};
-ghost use Rattle.sf_script.specs.Refusals.{module_named};
-ghost use Rattle.sf_session.specs.State.{start, noted_state};
-ghost use Rattle.sf_session.specs.Cuts.{CutStep, CutCommand};
-ghost use Rattle.sf_session.specs.Replies.{Step, Says, Carried};
+ghost use Rattle.std.specs.Prelude.{◌≡◌, ◌⊎◌, ◌≤◌, ℕ, List, [], length, IfOk, OnOk, OnErr, IsTrue, Ok, Err, MatchResult};
+ghost use Rattle.sf_matrix.specs.Tables.{matrices_of};
+ghost use Rattle.sf_text.specs.ReadTexts.{LONGEST_TEXT};
+ghost use Rattle.sf_script.specs.Grammar.{IsWritten};
+ghost use Rattle.sf_script.specs.Headings.{noted};
+ghost use Rattle.sf_script.specs.Names.{with_name};
+ghost use Rattle.sf_script.specs.Refusals.{checked};
+ghost use Rattle.sf_script.specs.SmallTerms.{HasSmallTerms};
+ghost use Rattle.sf_script.specs.declared.heads.Heads.{Heads};
+ghost use Rattle.sf_session.specs.Cuts.{CutStep, IsCut};
+ghost use Rattle.sf_session.specs.Outcomes.{outcome_text, state_after};
+ghost use Rattle.sf_session.specs.Replies.{Carried, Comes, Executed, Step};
+ghost use Rattle.sf_session.specs.Settling.{Finds, HasLowSource, MayCome};
+ghost use Rattle.sf_session.specs.Sound.{IsSound};
+ghost use Rattle.sf_session.specs.SoundChecks.{IsSoundCheck};
+ghost use Rattle.sf_session.specs.State.{begun, start, variables_of};
+ghost use Rattle.sf_session.specs.declared.outcome.Outcome.TheVariants as outs;
 
-use crate::answers::{basis_told, lift_told, membership_told, shown, syzygies_told};
-use indexmap::IndexMap;
+use crate::outcome::Outcome;
+use crate::outcomes::{has_list, outcome_of};
 use sf_field::OutOfMemory;
-use sf_matrix::{List, Matrix, Name};
+use sf_matrix::{BaseFault, Name};
 use sf_pairs::Strategy;
-use sf_reply::{Reply, refusal_text, reply_text};
-use sf_script::{
-    Command, Heads, Line, Refusal, Setting, can_open, entered_modulus, limit_refusal, note,
-    read_line, relations_of, set_limit,
-};
+use sf_reply::{Reply, fault_text, reply_text};
+use sf_script::{Checked, Command, Env, Heads, Line, LineFault, Named, check_line, read_line};
 use sf_store::Store;
-use sf_text::{RawMatrix, Ring};
+use sf_text::ReadText;
 use std::alloc::Global;
 use std::marker::Model;
 
@@ -28,23 +35,22 @@ const DEFAULT_LIMIT: u32 = 40;
 #[derive(Drop)]
 pub struct Session {
     alloc: Global,
-    heads: Heads,
-    modules: IndexMap<Name, Matrix>,
+    env: Env,
     store: Store,
 }
 
 impl Model for Session {
-    ghost use Rattle.sf_script.specs.Headings.{HasFewVariables, HasLimit};
     ghost use Rattle.std.specs.Prelude.{◌≡◌};
     ghost use Rattle.sf_matrix.specs.Tables.{matrices_of};
-    ghost use Rattle.sf_session.specs.State.{State, IsListed, HasModulesIn, LooksOnceNoted, limit_of};
+    ghost use Rattle.sf_session.specs.Sound.{IsSound, HasLowNames};
+    ghost use Rattle.sf_session.specs.State.{State, LooksOnceNoted, limit_of};
 
     ghost Value = { State };
 
-    ghost view = { λ s. record { heads = s.heads; modules = s.modules.entries; looked = matrices_of s.store.entries } };
+    ghost view = { λ s. record { env = s.env; looked = matrices_of s.store.entries } };
 
-    ghost invariant = { λ s. HasFewVariables s.heads × HasLimit s.heads × IsListed s.heads × HasModulesIn s.heads s.modules.entries
-        × (s.store.limit ≡ limit_of s.heads) × LooksOnceNoted s.heads (matrices_of s.store.entries) };
+    ghost invariant = { λ s. IsSound s.env × HasLowNames s.env.clients × (s.store.limit ≡ limit_of s.env.heads)
+        × LooksOnceNoted s.env.heads (matrices_of s.store.entries) };
 }
 
 impl Session {
@@ -54,203 +60,164 @@ impl Session {
     {
         Session {
             alloc,
-            heads: Heads::Unopened,
-            modules: IndexMap::new(alloc),
+            env: Env::new(alloc),
             store: Store::new(alloc, DEFAULT_LIMIT, strategy),
         }
     }
 
     /// The reply to a line with its LF, or nothing where the line has none.
     pub fn line(&mut self, text: &[u8]) -> Result<Vec<u8>, OutOfMemory>
+        requires { length text.now ≤ LONGEST_TEXT }
         ensures reply { IfOk result (λ reply. Step self.old text.now reply.items self.new) }
         ensures cut { OnErr result (CutStep self.old text.now self.new) }
     {
-        let command = match read_line(self.alloc, text)? {
-            Line::Silent => return Ok(Vec::new(self.alloc)),
-            Line::Malformed => return self.say(&Reply::Malformed),
-            Line::Read(command) => command,
-        };
-        match command {
-            Command::Spectral { version } => self.open(version),
-            Command::Ring { modulus, names } => self.enter(modulus, names),
-            Command::Limit { limit } => self.set_limit(limit),
-            Command::Module {
-                name,
-                degrees,
-                relations,
-            } => self.define(name, degrees, relations),
-            Command::Show { name } => self.show(name),
-            Command::Basis { name } => self.basis(name),
-            Command::Syz { name } => self.syzygies(name),
-            Command::Member { name, vector } => self.member(name, vector),
-            Command::Lift { name, vector } => self.lift(name, vector),
-            Command::Later => self.say(&Reply::Refused(Refusal::Unbuilt)),
+        match read_line(self.alloc, text) {
+            Ok(None) => Ok(Vec::new(self.alloc)),
+            Ok(Some(line)) => self.carry_out(line),
+            Err(ReadText::Syntax { col }) => self.refuse(LineFault::Syntax { col }),
+            Err(ReadText::Memory) => Err(OutOfMemory),
         }
     }
 
-    /// The text of a reply to a line that is noted.
-    fn say(&mut self, reply: &Reply<'_>) -> Result<Vec<u8>, OutOfMemory>
-        ensures said { IfOk result (λ text. Says reply.now (noted_state self.old) text.items self.new) }
+    /// Carries a line of the grammar out, or refuses it.
+    fn carry_out(&mut self, line: Line) -> Result<Vec<u8>, OutOfMemory>
+        requires written { IsWritten line.command }
+        ensures reply { IfOk result (λ reply. Carried line.client line.command self.old reply.items self.new) }
+        ensures cut { OnErr result ((self.new ≡ self.old)
+            ⊎ MatchResult (checked self.old.env line.client line.command) (λ c. IsCut c self.old self.new) (λ fault. ⊥)) }
+    {
+        let Line { client, command } = line;
+        let gives_limit = matches!(command, Command::Limit { .. });
+        match check_line(self.alloc, &self.env, &client, command)? {
+            Ok(checked) => self.execute(client, checked),
+            Err(fault) if gives_limit => self.settle(client, Outcome::Bars(fault)),
+            Err(fault) => self.settle(client, Outcome::Refuses(fault)),
+        }
+    }
+
+    /// Carries out what no test refused.
+    fn execute(&mut self, client: Name, checked: Checked) -> Result<Vec<u8>, OutOfMemory>
+        requires sound { IsSoundCheck self.old.env checked }
+        requires small { HasSmallTerms checked }
+        requires low { HasLowSource checked }
+        ensures reply { IfOk result (λ reply. Executed client checked self.old reply.items self.new) }
+        ensures cut { OnErr result ((self.new ≡ self.old) ⊎ IsCut checked self.old self.new) }
+    {
+        match self.found(checked) {
+            Ok(outcome) => self.settle(client, outcome),
+            Err(BaseFault::Large { rows, cols }) => self.refuse(LineFault::Large { rows, cols }),
+            Err(BaseFault::Memory) => Err(OutOfMemory),
+        }
+    }
+
+    /// What comes of a line that no test refused.
+    fn found(&mut self, checked: Checked) -> Result<Outcome, BaseFault>
+        requires sound { IsSoundCheck self.old.env checked }
+        requires small { HasSmallTerms checked }
+        requires low { HasLowSource checked }
+        ensures found { Finds checked self.old result self.new }
+        ensures sound { IfOk result (λ outcome. (client : List ℕ) → IsSound (state_after client outcome self.new).env) }
+        ensures early { IfOk result (λ outcome. MayCome outcome self.new) }
+    {
+        begin(&mut self.env, has_list(&checked));
+        outcome_of(self.alloc, checked, &mut self.store)
+    }
+
+    /// Refuses a line.
+    fn refuse(&mut self, fault: LineFault) -> Result<Vec<u8>, OutOfMemory>
+        ensures reply { IfOk result (λ reply. Comes [] (outs.Refuses fault) self.old reply.items self.new) }
         ensures kept { OnErr result (self.new ≡ self.old) }
     {
-        let text = reply_text(self.alloc, reply)?;
-        note(&mut self.heads);
+        let mut text = Vec::new(self.alloc);
+        fault_text(&fault, &mut text)?;
+        self.env.note();
         Ok(text)
     }
 
-    fn open(&mut self, version: i32) -> Result<Vec<u8>, OutOfMemory>
-        ensures reply { IfOk result (λ reply. Carried (Command.Spectral version) self.old reply.items self.new) }
+    /// Takes over what comes of a line, and tells it.
+    fn settle(&mut self, client: Name, outcome: Outcome) -> Result<Vec<u8>, OutOfMemory>
+        requires sound { IsSound (state_after client outcome self.old).env }
+        requires early { MayCome outcome self.old }
+        ensures reply { IfOk result (λ reply. Comes client outcome self.old reply.items self.new) }
         ensures kept { OnErr result (self.new ≡ self.old) }
     {
-        if !can_open(&self.heads, version) {
-            return self.say(&Reply::Refused(Refusal::Heading));
-        }
-        let reply = reply_text(self.alloc, &Reply::Accepted)?;
-        self.heads = Heads::Opened;
-        Ok(reply)
+        let text = text_of(self.alloc, &outcome, self.env.heads())?;
+        self.take_over(client, outcome)?;
+        Ok(text)
     }
 
-    fn enter(&mut self, modulus: u64, names: List<Name>) -> Result<Vec<u8>, OutOfMemory>
-        requires { 1 ≤ length names }
-        ensures reply { IfOk result (λ reply. Carried (Command.Ring modulus names) self.old reply.items self.new) }
+    /// Takes over what comes of a line.
+    fn take_over(&mut self, client: Name, outcome: Outcome) -> Result<(), OutOfMemory>
+        requires sound { IsSound (state_after client outcome self.old).env }
+        requires early { MayCome outcome self.old }
+        ensures taken { OnOk result (self.new ≡ state_after client outcome self.old) }
         ensures kept { OnErr result (self.new ≡ self.old) }
     {
-        let Some(modulus) = entered_modulus(&self.heads, modulus, names.as_slice()) else {
-            return self.say(&Reply::Refused(Refusal::Heading));
-        };
-        let reply = reply_text(self.alloc, &Reply::Accepted)?;
-        self.heads = Heads::Within(Setting {
-            ring: Ring { modulus, names },
-            limit: DEFAULT_LIMIT,
-            limited: false,
-            noted: false,
-        });
-        Ok(reply)
-    }
-
-    fn set_limit(&mut self, limit: i32) -> Result<Vec<u8>, OutOfMemory>
-        ensures reply { IfOk result (λ reply. Carried (Command.Limit limit) self.old reply.items self.new) }
-        ensures kept { OnErr result (self.new ≡ self.old) }
-    {
-        if let Some(refusal) = limit_refusal(&self.heads, limit) {
-            return refusal_text(self.alloc, &refusal);
-        }
-        let reply = reply_text(self.alloc, &Reply::Accepted)?;
-        set_limit(&mut self.heads, limit);
-        self.store.set_limit(limit as u32);
-        Ok(reply)
-    }
-
-    fn define(
-        &mut self,
-        name: Name,
-        degrees: List<i32>,
-        relations: RawMatrix,
-    ) -> Result<Vec<u8>, OutOfMemory>
-        requires { IsTrue (list_all is_written_degree degrees) }
-        ensures reply { IfOk result (λ reply. Carried (Command.Module name degrees relations) self.old reply.items self.new) }
-        ensures kept { OnErr result (self.new ≡ self.old) }
-    {
-        match relations_of(
-            self.alloc,
-            &self.heads,
-            &self.modules,
-            &name,
-            degrees,
-            &relations,
-        )? {
-            Err(refusal) => self.say(&Reply::Refused(refusal)),
-            Ok(relations) => {
-                let reply = reply_text(self.alloc, &Reply::Accepted)?;
-                add_module(&mut self.modules, name, relations)?;
-                note(&mut self.heads);
-                Ok(reply)
+        match outcome {
+            Outcome::Tells(_reply) => self.env.note(),
+            Outcome::Refuses(_fault) => self.env.note(),
+            Outcome::Opens => self.env.open(),
+            Outcome::Enters(ring) => self.env.enter(ring),
+            Outcome::Limits(limit) => {
+                self.env.set_limit(limit);
+                self.store.set_limit(limit);
             }
+            Outcome::Defines(name, what) => define(&mut self.env, self.alloc, &client, name, what)?,
+            Outcome::Bars(_fault) => {}
         }
-    }
-
-    fn show(&mut self, name: Name) -> Result<Vec<u8>, OutOfMemory>
-        ensures reply { IfOk result (λ reply. Carried (Command.Show name) self.old reply.items self.new) }
-        ensures kept { OnErr result (self.new ≡ self.old) }
-    {
-        let reply = shown(self.alloc, &self.heads, &self.modules, name)?;
-        note(&mut self.heads);
-        Ok(reply)
-    }
-
-    fn basis(&mut self, name: Name) -> Result<Vec<u8>, OutOfMemory>
-        ensures reply { IfOk result (λ reply. Carried (Command.Basis name) self.old reply.items self.new) }
-        ensures cut { OnErr result (CutCommand (Command.Basis name) self.old self.new) }
-    {
-        let told = basis_told(
-            self.alloc,
-            &self.heads,
-            &self.modules,
-            &mut self.store,
-            name,
-        );
-        note(&mut self.heads);
-        told
-    }
-
-    fn syzygies(&mut self, name: Name) -> Result<Vec<u8>, OutOfMemory>
-        ensures reply { IfOk result (λ reply. Carried (Command.Syz name) self.old reply.items self.new) }
-        ensures cut { OnErr result (CutCommand (Command.Syz name) self.old self.new) }
-    {
-        let told = syzygies_told(
-            self.alloc,
-            &self.heads,
-            &self.modules,
-            &mut self.store,
-            name,
-        );
-        note(&mut self.heads);
-        told
-    }
-
-    fn member(&mut self, name: Name, vector: RawMatrix) -> Result<Vec<u8>, OutOfMemory>
-        ensures reply { IfOk result (λ reply. Carried (Command.Member name vector) self.old reply.items self.new) }
-        ensures cut { OnErr result (CutCommand (Command.Member name vector) self.old self.new) }
-    {
-        let told = membership_told(
-            self.alloc,
-            &self.heads,
-            &self.modules,
-            &mut self.store,
-            name,
-            &vector,
-        );
-        note(&mut self.heads);
-        told
-    }
-
-    fn lift(&mut self, name: Name, vector: RawMatrix) -> Result<Vec<u8>, OutOfMemory>
-        ensures reply { IfOk result (λ reply. Carried (Command.Lift name vector) self.old reply.items self.new) }
-        ensures cut { OnErr result (CutCommand (Command.Lift name vector) self.old self.new) }
-    {
-        let told = lift_told(
-            self.alloc,
-            &self.heads,
-            &self.modules,
-            &mut self.store,
-            name,
-            &vector,
-        );
-        note(&mut self.heads);
-        told
+        Ok(())
     }
 }
 
-#[tactic(auto, using(crate::proofs::Modules::module_rules))]
-fn add_module(
-    modules: &mut IndexMap<Name, Matrix>,
-    name: Name,
-    relations: Matrix,
-) -> Result<(), OutOfMemory>
-    requires { IsTrue (is_none (module_named name modules.old.entries)) }
-    ensures ok { OnOk result (modules.new.entries ≡ modules.old.entries ++ (name, relations) ∷ []) }
-    ensures err { OnErr result (modules.new.entries ≡ modules.old.entries) }
+/// Notes a line that has a working list, before anything is looked at.
+fn begin(env: &mut Env, list: bool)
+    ensures { env.new ≡ begun list env.old }
 {
-    modules.insert(name, relations)?;
+    if list {
+        env.note();
+    }
+}
+
+/// Lets a client's name stand for this, and notes the line.
+fn define(
+    env: &mut Env,
+    alloc: Global,
+    client: &Name,
+    name: Name,
+    what: Named,
+) -> Result<(), OutOfMemory>
+    ensures defined { OnOk result (env.new ≡ record (with_name client.now name what env.old) { heads = noted env.old.heads }) }
+    ensures kept { OnErr result (env.new ≡ env.old) }
+{
+    env.put(alloc, client, name, what)?;
+    env.note();
     Ok(())
+}
+
+/// The text of what comes of a line.
+fn text_of(alloc: Global, outcome: &Outcome, heads: &Heads) -> Result<Vec<u8>, OutOfMemory>
+    ensures { IfOk result (λ text. text.items ≡ outcome_text (variables_of heads.now) outcome.now) }
+{
+    let names = variables(heads);
+    match outcome {
+        Outcome::Tells(reply) => reply_text(alloc, reply, names),
+        Outcome::Opens | Outcome::Enters(_) | Outcome::Limits(_) | Outcome::Defines(..) => {
+            reply_text(alloc, &Reply::Accepted, names)
+        }
+        Outcome::Refuses(fault) | Outcome::Bars(fault) => {
+            let mut text = Vec::new(alloc);
+            fault_text(fault, &mut text)?;
+            Ok(text)
+        }
+    }
+}
+
+/// The names of the ring's variables, none before the ring is given.
+fn variables(heads: &Heads) -> &[Name]
+    ensures { result.now ≡ variables_of heads.now }
+{
+    match heads {
+        Heads::Within(setting) => setting.ring.names.as_slice(),
+        _ => &[],
+    }
 }

@@ -58,13 +58,13 @@ fn answers_scripts(rt: HostRuntime) -> Result<(), Fail> {
             b"ok\nerror ring\nerror ring\nok\nerror ring\n",
         ),
         (
-            b"modul K\n show K\nshow K L\nshow 1\nshow K\r\r\nmodule\n",
-            b"error syntax 0\nerror syntax 0\nerror syntax 0\nerror syntax 0\nerror syntax 0\nerror syntax 0\n",
+            b"modul K\n show K\nshow K L\nshow 1\nshow K\r\r\nmodule\nmodule K degrees 0 relations [x;",
+            b"error syntax 6\nerror syntax 1\nerror syntax 8\nerror syntax 6\nerror syntax 7\nerror syntax 7\nerror syntax 33\n",
         ),
         (b"\n  \n# note\n\r\n#\xff\0", b""),
         (
             b"@\nresolve K 1\nbasis K\nlimit 1\nlimit x\nshow K\n",
-            b"error later\nerror later\nerror ring\nerror ring\nerror syntax 0\nerror ring\n",
+            b"error later\nerror later\nerror ring\nerror ring\nerror syntax 7\nerror ring\n",
         ),
         (
             b"spectral 1\r\nring 2 a\r\nmodule A degrees -7 relations []  \r\nshow  A\r\n",
@@ -135,6 +135,37 @@ fn answers_by_lifts(rt: HostRuntime) -> Result<(), Fail> {
         (
             b"spectral 1\nring 101 x y\nlimit 2\nmodule N degrees 0 relations [x^2;x*y+y^2]\nlift N [y^2]\nsyz N\nlift M [x]\nlift N [z]\nlift N [x,x]\nlift N [x+1]\n",
             b"ok\nok\nok\nok\nerror large 2 1\nerror large 2 1\nerror name M\nerror name z\nerror shape\nerror degree 1\n",
+        ),
+    ];
+    for (script, wanted) in cases {
+        let (status, sink) = answered(rt.alloc(), &["run"], script)?;
+        assert_eq!(rt; status, Status::Done);
+        assert_eq!(rt; sink.bytes(), wanted);
+    }
+    Ok(())
+}
+
+const MAPS: &[u8] =
+    b"spectral 1\nring 101 x y\nmodule K degrees 0 relations [x;y]\nmodule R degrees 0 relations []\nmap f R K [1]\nkernel f\nimage f\ncoker f\nmap g K R [1]\nlet I = kernel f\nshow I\n";
+
+const MAPS_REPLIES: &[u8] =
+    b"ok\nok\nok\nok\nok\ngens (1,1)->(0) [x;y]\nrels (2)->(1,1) [y,100*x]\ngens (0)->(0) [1]\nrels (1,1)->(0) [x;y]\ngens ()->(0) []\nrels ()->() []\nerror map 1\nok\ndegrees (1,1)\nrels (2)->(1,1) [y,100*x]\n";
+
+#[test]
+fn answers_by_maps(rt: HostRuntime) -> Result<(), Fail> {
+    let cases: [(&[u8], &[u8]); 4] = [
+        (MAPS, MAPS_REPLIES),
+        (
+            b"spectral 1\nring 101 x y\nmodule K degrees 0 relations [x;y]\nkernel K\nshow f\nmap f K K [2]\nshow f\nbasis f\nmap f K K [1]\nmap g K f [1]\nmap g K K [1,1]\nmap g K K [x+1]\nlimit 5\n",
+            b"ok\nok\nok\nerror kind K\nerror name f\nok\nmap (0)->(0) [2]\nerror kind f\nerror taken f\nerror kind f\nerror shape\nerror degree 1\nerror ring\n",
+        ),
+        (
+            b"spectral 1\nring 101 x y\nlimit 2\nmodule F degrees 2 relations []\nmodule N degrees 0 relations [x*y]\nmap f F N [x^2+y^2]\nlet I = kernel f\nshow I\nlet I = kernel g\nlet f = kernel f\nlet I = hom F N\n",
+            b"ok\nok\nok\nok\nok\nok\nerror large 2 1\nerror name I\nerror name g\nerror taken f\nerror later\n",
+        ),
+        (
+            b"spectral 1\nring 2 a\nmodule F degrees 1 0 relations []\nmodule Z degrees relations []\nmap z Z F []\nmap y F Z []\nkernel y\nlet C = coker z\nshow C\n",
+            b"ok\nok\nok\nok\nok\nok\ngens (0,1)->(1,0) [0,1;1,0]\nrels ()->(0,1) []\nok\ndegrees (0,1)\nrels ()->(0,1) []\n",
         ),
     ];
     for (script, wanted) in cases {

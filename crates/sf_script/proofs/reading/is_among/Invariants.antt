@@ -1,9 +1,8 @@
 use Rattle.std.proofs.Common.{◌≡◌, List, map, drop, Bor, ℕ}
-use Rattle.std.specs.List.{list_any}
-use Rattle.std.specs.Str.{bytes_eq}
+use Rattle.sf_script.specs.Grammar.{is_among}
 use Rattle.sf_script.proofs.reading.is_among.Given as goal
 
 abbrev pub invariant-loop-other : goal.invariant-loop-other
 invariant-loop-other l =
-    list_any (bytes_eq l.word) (map (λ (w : Bor (List ℕ)). w.now) (drop l.other-index l.words))
-    ≡ list_any (bytes_eq l.word) (map (λ (w : Bor (List ℕ)). w.now) l.words)
+    is_among (map (λ (w : Bor (List ℕ)). w.now) (drop l.other-index l.words)) l.word
+    ≡ is_among (map (λ (w : Bor (List ℕ)). w.now) l.words) l.word

@@ -15,6 +15,7 @@ loop-line-preserved g c =
           c.loop-line.rest.now c.in-Some.line.now c.in-Some.others.now c.in-Ok.reply.items c.loop-line.session c.line.new.self
           c.loop-line.invariant.so_far cut c.in-Ok.ensures.reply (search rules);
       later = omega (arith, c.loop-line.invariant.later, c.write_all.ensures.later);
+      short = let shorter = c.in-Some.ensures.shorter in omega (arith, c.loop-line.invariant.short, shorter);
     }
 
 pub returns-in_default-write_all-clause-sink : goal.returns-in_default-write_all-clause-sink
@@ -26,3 +27,8 @@ returns-in_default-write_all-clause-sink g c = λ _.
     SoFar-cut (written c.args.sink.now) (written c.loop-line.sink) (written c.write_all.new.sink) c.args.script.now
     c.loop-line.rest.now c.in-Some.line.now c.in-Some.others.now c.in-Ok.reply.items part.0 c.loop-line.session c.line.new.self
     c.loop-line.invariant.so_far cut c.in-Ok.ensures.reply part.2
+
+pub line-requires : goal.line-requires
+line-requires g c =
+    let within = c.in-Some.ensures.within in
+    omega (arith, c.loop-line.invariant.short, within)

@@ -1,9 +1,0 @@
-use Rattle.sf_matrix.proofs.Plans.Rules.{meets_cut}
-use Rattle.std.proofs.lemmas.Result.{err_from_is_err_and}
-use Rattle.sf_session.proofs.answers.basis_text.Goals as goal
-
-pub returns-in_err-reply_text : goal.returns-in_err-reply_text
-returns-in_err-reply_text g c =
-    let r = c.from_residual-in_err-reply_text in
-    let p = err_from_is_err_and r.result r.ensures.1 in
-    rw (p.1, p.2) (meets_cut c.in_ok-basis.ensures)
