@@ -1,0 +1,3 @@
+pub mod Bicomplexes
+pub mod TotalColumns
+pub mod TotalComplexLaws

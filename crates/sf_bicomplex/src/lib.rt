@@ -1,0 +1,9 @@
+//! Bicomplexes of presented modules, their total complexes and spectral sequences.
+//!
+//! The definitions are in `specs/`, the lemmas in `proofs/`. The functions here do nothing: the
+//! contract of each is a law of the definitions.
+#![tactic(auto)]
+
+mod total;
+
+pub use total::total_complexes;
