@@ -1,3 +1,5 @@
 pub mod Bicomplexes
 pub mod TotalColumns
 pub mod TotalComplexLaws
+pub mod Pages
+pub mod PageLaws

@@ -4,6 +4,8 @@
 //! contract of each is a law of the definitions.
 #![tactic(auto)]
 
+mod page;
 mod total;
 
+pub use page::pages_are_homology;
 pub use total::total_complexes;

@@ -41,10 +41,10 @@ pub record IsRange (degrees es : List ℤ) (from to : ℕ) : Type 0 where
 
 module _ (ring : Ring) (positive : IsRing ring) (degrees es : List ℤ) (from to : ℕ)
     (range : IsRange degrees es from to) (d : ℤ) where
-  abbrev column_group : Group ⊥
+  abbrev pub column_group : Group ⊥
   column_group = vectors_of_degree ring positive.modulus es d
 
-  abbrev whole_group : Group ⊥
+  abbrev pub whole_group : Group ⊥
   whole_group = vectors_of_degree ring positive.modulus degrees d
 
   moved-homogeneous : (ts : List (Term Place)) → IsHomogeneous ring.weights es d ts
@@ -131,7 +131,7 @@ module _ (ring : Ring) (positive : IsRing ring) (degrees : List ℤ) (d : ℤ) (
     (column : Matrix) (column_rings : column.ring ≡ ring) (column_matrix : IsMatrix column)
     (range : IsRange degrees column.target (low (suc j)) (low j)) where
   -- the column j with the relations of its module
-  pub column_of : ((c : (vectors_of_degree ring positive.modulus column.target d).V)
+  abbrev pub column_of : ((c : (vectors_of_degree ring positive.modulus column.target d).V)
       → of_degree (InSpan column) ring positive column.target d c
       → InSpan relations (record { degree = d; terms = moved (low (suc j)) c.0 }))
       → ((v : (vectors_of_degree ring positive.modulus degrees d).V)

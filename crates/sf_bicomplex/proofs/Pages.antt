@@ -1,0 +1,4 @@
+-- Pages, said of vectors, are pages of groups in columns in each degree.
+pub mod NearVectors
+pub mod PageVectors
+pub mod PageLaws
