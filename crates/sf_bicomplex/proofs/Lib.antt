@@ -1,3 +1,4 @@
 pub mod Columns
 pub mod TotalComplexes
 pub mod Pages
+pub mod Filtrations

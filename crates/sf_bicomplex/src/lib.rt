@@ -4,8 +4,10 @@
 //! contract of each is a law of the definitions.
 #![tactic(auto)]
 
+mod filtration;
 mod page;
 mod total;
 
+pub use filtration::filtrations_have_last_pages;
 pub use page::pages_are_homology;
 pub use total::total_complexes;
