@@ -3,4 +3,5 @@ pub mod TotalBoundaries
 pub mod PartVectors
 pub mod Combinations
 pub mod PartLaws
+pub mod ColumnChanges
 pub mod HomologyParts

@@ -2,3 +2,4 @@ pub mod Columns
 pub mod TotalComplexes
 pub mod Pages
 pub mod Filtrations
+pub mod Spans

@@ -44,7 +44,7 @@ pub record IsOfPart (b : Bicomplex) (above n below : ℤ) (generators : Matrix) 
 -- the part of column p: the coordinates of the columns up to p, modulo those of the columns below p
 abbrev pub IsPartOfHomology : Bicomplex → ℤ → (generators : Matrix) → (p : ℕ) → Matrix → Matrix → Type 0
 IsPartOfHomology b n generators p part_generators part_relations =
-    IsPresentation generators.ring (row_degrees generators) (IsOfPart b (n +ℤ pos 1) n (n -ℤ pos 1) generators (suc p))
+    IsPresentation b.ring (row_degrees generators) (IsOfPart b (n +ℤ pos 1) n (n -ℤ pos 1) generators (suc p))
     (IsOfPart b (n +ℤ pos 1) n (n -ℤ pos 1) generators p) part_generators part_relations
 
 -- z is a column p of the class with the coordinates c: that of a cycle up to there which is equal to it modulo boundaries

@@ -5,3 +5,5 @@ pub mod Pages
 pub mod PageLaws
 pub mod InducedFiltrations
 pub mod FiltrationLaws
+pub mod Descriptions
+pub mod ExistenceLaws

@@ -4,10 +4,12 @@
 //! contract of each is a law of the definitions.
 #![tactic(auto)]
 
+mod existence;
 mod filtration;
 mod page;
 mod total;
 
+pub use existence::pages_have_matrices;
 pub use filtration::filtrations_have_last_pages;
 pub use page::pages_are_homology;
 pub use total::total_complexes;

@@ -61,10 +61,12 @@ module _ (b : Bicomplex) (h : IsBicomplex b) (above n below : ℤ) (first : n �
       let image = combination b h above n below first last rows matrix d element in
       let bound = (boundaries-submodule b h above n first).module_like.vectors s.first s.in_module in
       let second : image.0 ≡ s.second.terms = ap (λ (x : Vector). x.terms) s.in_span.value in
-      let rest : s.first.terms ≡ row_sum b.ring v.0 (negative b.ring.modulus image.0) =
+      let front : s.first.terms ≡ row_sum b.ring (row_sum b.ring s.first.terms image.0) (negative b.ring.modulus image.0) =
       sym (add-negative_front (place_keys b.ring.weights) b.ring.modulus h.is_ring.modulus s.first.terms image.0
-      bound.canonical image.1.canonical)
-      ∙ ap (λ ts. row_sum b.ring ts (negative b.ring.modulus image.0)) (ap (row_sum b.ring s.first.terms) second ∙ s.sum) in
+      bound.canonical image.1.canonical) in
+      let whole : row_sum b.ring s.first.terms image.0 ≡ v.0 = ap (row_sum b.ring s.first.terms) second ∙ s.sum in
+      let rest : s.first.terms ≡ row_sum b.ring v.0 (negative b.ring.modulus image.0) =
+      subst (λ ts. s.first.terms ≡ row_sum b.ring ts (negative b.ring.modulus image.0)) whole front in
       let sub =
       ImagesModulo-sub (total_group b h above d) (total_group b h n d) (total_group b h below d)
       (total_image b h above n first d) (total_image b h n below last d) (total-differential b h above n first d)

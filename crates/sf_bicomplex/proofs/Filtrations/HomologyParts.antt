@@ -52,14 +52,14 @@ module _ (b : Bicomplex) (h : IsBicomplex b) (prime : IsOverField b.ring) (n abo
   abbrev generators : Matrix
   generators = matrix_of b.ring (total_degrees b n) g.rows
 
-  same : g ≡ matrix_of b.ring (total_degrees b n) g.rows
+  pub same : g ≡ matrix_of b.ring (total_degrees b n) g.rows
   same = λ i. record {
     ring = (at_place.generators_ring ∙ here_ring n) i;
     target = at_place.generators_target i;
     rows = g.rows;
   }
 
-  presented : IsPresentedBy (IsCycle (total_map b n below) (total_module b below)) (IsTotalBoundary b above n)
+  pub presented : IsPresentedBy (IsCycle (total_map b n below) (total_module b below)) (IsTotalBoundary b above n)
       (matrix_of b.ring (total_degrees b n) g.rows) relations
   presented =
       subst (λ (x : Matrix). IsPresentedBy (IsCycle (total_map b n below) (total_module b below))
@@ -67,7 +67,7 @@ module _ (b : Bicomplex) (h : IsBicomplex b) (prime : IsOverField b.ring) (n abo
       (presented-homology (total_place b above n below) (subst IsOverField (sym (here_ring n)) prime) total_place-meets g
       relations at_place)
 
-  matrix : IsMatrix (matrix_of b.ring (total_degrees b n) g.rows)
+  pub matrix : IsMatrix (matrix_of b.ring (total_degrees b n) g.rows)
   matrix =
       AllByRecursion-weaken _ (IsVector b.ring (total_degrees b n))
       (λ v e. subst (λ ds. IsVector b.ring ds v) (total_map-rows b h n below down) e.coefficients) g.rows presented.inside

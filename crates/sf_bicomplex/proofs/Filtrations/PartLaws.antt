@@ -2,9 +2,11 @@
 use Rattle.std.proofs.Common.{◌≡◌, ◌↔◌, ℕ, suc, ◌+◌, ◌<◌, ◌≤◌, sym, ◌∙◌, subst, refl, arith, List, ℤ, pos, ◌-ℤ◌}
 use Rattle.sf_algebra.specs.Groups.{Group}
 use Rattle.sf_algebra.specs.Matrices.{IsMatrix, Matrix, degrees_of}
-use Rattle.sf_algebra.specs.Vectors.{Vector}
+use Rattle.sf_algebra.specs.Vectors.{IsVector, Vector}
+use Rattle.sf_algebra.proofs.Operators.Congruences.{Mod-sym}
 use Rattle.sf_algebra.proofs.Operators.Correspondences.{IsCorrespondence, IsMapOfClasses, converse, converse-correspondence, related-Mod}
 use Rattle.sf_algebra.proofs.Operators.GroupMaps.{IsMap-id}
+use Rattle.sf_algebra.proofs.Operators.Subgroups.{PreimageOf-sub}
 use Rattle.sf_algebra.proofs.Vectors.VectorGroups.{vectors_of_degree}
 use Rattle.sf_groebner.specs.Homology.{IsCycle}
 use Rattle.sf_groebner.specs.Maps.{AreEqualModulo}
@@ -15,12 +17,14 @@ use Rattle.sf_chase.specs.ColumnPages.{BoundariesOfPage, CyclesBelow, CyclesOfPa
 use Rattle.sf_chase.specs.Columns.{ColumnOf}
 use Rattle.sf_chase.proofs.Filtrations.ColumnParts.{CyclesBelow-sub, ImagesModulo-sub}
 use Rattle.sf_chase.proofs.Filtrations.LastPages.{highest_part, last_page-back, last_page-correspondence, last_page-there, lowest_part}
-use Rattle.sf_chase.proofs.Images.{NearImageOf-zero}
+use Rattle.sf_chase.proofs.Images.{NearImageOf-sub, NearImageOf-zero}
+use Rattle.sf_chase.proofs.Columns.Pages.{ColumnBoundaries-sub}
 use Rattle.sf_bicomplex.specs.Bicomplexes.{Bicomplex, IsBicomplex}
 use Rattle.sf_bicomplex.specs.InducedFiltrations.{HasLeadingColumn, IsOfPart, IsTotalBoundary}
 use Rattle.sf_bicomplex.specs.Pages.{IsBoundaryOfPage, IsCycleOfPage}
-use Rattle.sf_bicomplex.specs.TotalColumns.{total_degrees, total_map, total_module}
+use Rattle.sf_bicomplex.specs.TotalColumns.{place, total_degrees, total_map, total_module}
 use Rattle.sf_bicomplex.proofs.Columns.ColumnMaps.{image_of-map}
+use Rattle.sf_bicomplex.proofs.Filtrations.ColumnChanges.{class-changed, column-changed}
 use Rattle.sf_bicomplex.proofs.Filtrations.Combinations.{combination-cycle, cycle-combination}
 use Rattle.sf_bicomplex.proofs.Filtrations.PartVectors.{column-back, column-there, combination, group_column, part-same}
 use Rattle.sf_bicomplex.proofs.Filtrations.TotalBoundaries.{total_boundaries-same}
@@ -75,7 +79,7 @@ module _ (b : Bicomplex) (h : IsBicomplex b) (above n below : ℤ) (first : n �
       )
 
   -- coordinates and a leading column have one degree
-  column-degree : (p : ℕ) (c z : Vector)
+  pub column-degree : (p : ℕ) (c z : Vector)
       → HasLeadingColumn b above n below (matrix_of b.ring (total_degrees b n) rows) p c z → z.degree ≡ c.degree
   column-degree p c z e = e.column.degrees ∙ sym e.same.degrees
 
@@ -246,3 +250,81 @@ module _ (b : Bicomplex) (h : IsBicomplex b) (above n below : ℤ) (first : n �
                 difference = part.back ((coordinates d).plus C ((coordinates d).minus E)) related;
               },
         )
+
+    -- a leading column may be changed by boundaries of the last page
+    pub column_changed : (c y z : Vector) → HasLeadingColumn b above n below (matrix_of b.ring (total_degrees b n) rows) p c y
+        → IsVector b.ring (place b n p).target z
+        → AreEqualModulo b.ring (IsBoundaryOfPage b r above n p) y z
+        → HasLeadingColumn b above n below (matrix_of b.ring (total_degrees b n) rows) p c z
+    column_changed c y z k vector same =
+        let d = c.degree in
+        let bound = boundaries-same b h d above n first r p inside in
+        let y_degree : y.degree ≡ d = column-degree p c y k in
+        let z_degree : d ≡ z.degree = sym y_degree ∙ same.degrees in
+        let u = of_degree_column d c y k refl in
+        let C : (coordinates d).V = (c.terms, u.coefficients) in
+        let Y : (column d).group.V = (y.terms, u.vector) in
+        let Z : (column d).group.V = (
+          z.terms,
+          subst (λ g. IsVector b.ring (place b n p).target (record { degree = g; terms = z.terms })) (sym z_degree)
+              vector,
+        ) in
+        let sub =
+        ColumnBoundaries-sub (total_group b h above d) (total_group b h n d) (total_image b h above n first d)
+        (total-differential b h above n first d) (p + r) p (column d) in
+        let near =
+        bound.there ((column d).group.plus Y ((column d).group.minus Z))
+        (subst
+        (λ g. IsBoundaryOfPage b r above n p
+        (record { degree = g; terms = ((column d).group.plus Y ((column d).group.minus Z)).0 })) y_degree same.difference) in
+        let changed =
+        column-changed (total_group b h above d) (total_group b h n d) (total_group b h below d)
+        (total_image b h above n first d) (total_image b h n below last d) (total-differential b h above n first d)
+        (total-differential b h n below last d) (total-complex b h above n below first last d) (coordinates d)
+        (combination b h above n below first last rows matrix d)
+        (image_of-map b.ring h.is_ring (degrees_of rows) (total_degrees b n) rows matrix refl d) p (column d) (p + r) C Y Z
+        (column-there b h above n below first last rows matrix d p inside C Y u)
+        (Mod-sym (column d).group (boundaries d) sub Y Z near) in
+        subst (λ g. HasLeadingColumn b above n below generators p c (record { degree = g; terms = z.terms })) z_degree
+        (column-back b h above n below first last rows matrix d p inside C Z changed)
+
+    -- and a class by those of the next lower part
+    pub class_changed : (c e z : Vector) → HasLeadingColumn b above n below (matrix_of b.ring (total_degrees b n) rows) p c z
+        → IsVector b.ring (degrees_of rows) e
+        → AreEqualModulo b.ring (IsOfPart b above n below (matrix_of b.ring (total_degrees b n) rows) p) c e
+        → HasLeadingColumn b above n below (matrix_of b.ring (total_degrees b n) rows) p e z
+    class_changed c e z k vector same =
+        let d = c.degree in
+        let X = total_group b h above d in
+        let Y = total_group b h n d in
+        let W = total_group b h below d in
+        let f = total_image b h above n first d in
+        let g = total_image b h n below last d in
+        let x = total-differential b h above n first d in
+        let y = total-differential b h n below last d in
+        let map = image_of-map b.ring h.is_ring (degrees_of rows) (total_degrees b n) rows matrix refl d in
+        let value = combination b h above n below first last rows matrix d in
+        let z_degree : z.degree ≡ d = column-degree p c z k in
+        let u = of_degree_column d c z k refl in
+        let C : (coordinates d).V = (c.terms, u.coefficients) in
+        let Z : (column d).group.V = (z.terms, u.vector) in
+        let E : (coordinates d).V = (
+          e.terms,
+          subst (λ q. IsVector b.ring (degrees_of rows) (record { degree = q; terms = e.terms })) (sym same.degrees)
+              vector,
+        ) in
+        let sub =
+        PreimageOf-sub (coordinates d) Y.group value map _
+        (NearImageOf-sub Y.group Y.group (λ v. v) (IsMap-id Y.group) (CyclesBelow Y W g p) (ImagesModulo X Y f)
+        (CyclesBelow-sub X Y W f g x y p) (ImagesModulo-sub X Y W f g x y)) in
+        let near =
+        (part-same b h above n below first last rows matrix d p).there ((coordinates d).plus C ((coordinates d).minus E))
+        same.difference in
+        let changed =
+        class-changed X Y W f g x y (total-complex b h above n below first last d) (coordinates d) value map p (column d) C E
+        Z (column-there b h above n below first last rows matrix d p inside C Z u)
+        (Mod-sym (coordinates d) (parts d p) sub C E near) in
+        subst
+        (λ (w : Vector × Vector). HasLeadingColumn b above n below generators p w.0 w.1)
+        (λ i. (record { degree = same.degrees i; terms = e.terms }, record { degree = sym z_degree i; terms = z.terms }))
+        (column-back b h above n below first last rows matrix d p inside E Z changed)
