@@ -3,8 +3,11 @@ pub mod SpannedModules
 pub mod PageSpans
 pub mod ReducedCoordinates
 pub mod ClassMaps
+pub mod ClassKernels
 pub mod Described
 pub mod DifferentialMaps
 pub mod PageExistence
 pub mod PartMaps
 pub mod PartExistence
+pub mod NextMaps
+pub mod NextExistence

@@ -7,3 +7,5 @@ pub mod InducedFiltrations
 pub mod FiltrationLaws
 pub mod Descriptions
 pub mod ExistenceLaws
+pub mod NextPages
+pub mod NextPageLaws

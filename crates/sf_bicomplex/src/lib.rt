@@ -6,10 +6,12 @@
 
 mod existence;
 mod filtration;
+mod next;
 mod page;
 mod total;
 
 pub use existence::pages_have_matrices;
 pub use filtration::filtrations_have_last_pages;
+pub use next::next_pages_have_inverse_matrices;
 pub use page::pages_are_homology;
 pub use total::total_complexes;

@@ -1,17 +1,20 @@
 -- A vector is the sum of its terms before a position and of those from there on.
-use Rattle.std.proofs.Common.{◌≡◌, ℕ, ◌-◌, ◌+◌, ◌<◌, ◌≤◌, List, [], ◌∷◌, ◌++◌, length, sym, subst, arith, ℤ}
+use Rattle.std.proofs.Common.{ap, ◌∙◌, ◌≡◌, ℕ, ◌-◌, ◌+◌, ◌<◌, ◌≤◌, List, [], ◌∷◌, ◌++◌, length, sym, subst, arith, ℤ}
 use Rattle.std.proofs.Math.Nat.{sub-zero}
 use Rattle.std.specs.List.{AllByRecursion}
 use Rattle.sf_algebra.specs.MatrixOperations.{moved, part_terms}
+use Rattle.sf_algebra.specs.Multiples.{negative}
 use Rattle.sf_algebra.specs.Rings.{Ring, IsRing}
 use Rattle.sf_algebra.specs.Terms.{Term}
 use Rattle.sf_algebra.specs.VectorOperations.{row_sum}
-use Rattle.sf_algebra.specs.Vectors.{Place, Vector, IsVector}
+use Rattle.sf_algebra.specs.Vectors.{IsCanonicalRow, IsVector, Place, Vector}
 use Rattle.sf_algebra.proofs.Basics.Lists.{AllByRecursion-back, AllByRecursion-front, AllByRecursion-weaken}
 use Rattle.sf_algebra.proofs.GradedMatrices.MatrixRows.{StandsWithin}
 use Rattle.sf_algebra.proofs.GradedMatrices.PartTerms.{IsCanonical-part_terms, IsWithin-part_terms}
+use Rattle.sf_algebra.proofs.Multiplying.Keys.{place_keys}
 use Rattle.sf_algebra.proofs.Tensors.KroneckerUnits.{IsCanonical-moved}
 use Rattle.sf_groebner.proofs.PartsOfBases.PairedVectors.{paired_terms-parts}
+use Rattle.sf_groebner.proofs.Uniqueness.Subtractions.{add-negative_front}
 use Rattle.sf_blocks.proofs.DirectSums.SummandSpans.{row_sum-pair}
 
 -- terms moved on stand from there on
@@ -67,3 +70,10 @@ module _ (ring : Ring) (positive : IsRing ring) (degrees : List ℤ) (d : ℤ) (
         together = together;
         sum = subst (λ us. us ≡ ts) (sym (row_sum-pair ring positive.modulus n before rest inside before_canonical rest_canonical)) together;
       }
+
+-- the first part of a sum is the sum less the second
+pub first_of_sum : (ring : Ring) → IsRing ring → (us vs ts : List (Term Place)) → IsCanonicalRow ring us
+    → IsCanonicalRow ring vs → row_sum ring us vs ≡ ts → us ≡ row_sum ring ts (negative ring.modulus vs)
+first_of_sum ring positive us vs ts h k sum =
+    sym (add-negative_front (place_keys ring.weights) ring.modulus positive.modulus us vs h k)
+    ∙ ap (λ ws. row_sum ring ws (negative ring.modulus vs)) sum

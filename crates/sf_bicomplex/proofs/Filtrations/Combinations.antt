@@ -5,20 +5,19 @@ use Rattle.sf_algebra.specs.Matrices.{IsMatrix, Matrix, degrees_of}
 use Rattle.sf_algebra.specs.Multiples.{negative}
 use Rattle.sf_algebra.specs.VectorOperations.{row_sum}
 use Rattle.sf_algebra.specs.Vectors.{IsVector, Vector}
-use Rattle.sf_algebra.proofs.Multiplying.Keys.{place_keys}
 use Rattle.sf_algebra.proofs.Operators.Congruences.{Mod-sym}
 use Rattle.sf_algebra.proofs.Vectors.VectorGroups.{vectors_of_degree}
 use Rattle.sf_groebner.specs.Homology.{IsCycle}
 use Rattle.sf_groebner.specs.MinimalGenerators.{matrix_of}
 use Rattle.sf_groebner.specs.Spans.{InSpan}
 use Rattle.sf_groebner.proofs.Spanning.SpanCombinations.{relation_submodule}
-use Rattle.sf_groebner.proofs.Uniqueness.Subtractions.{add-negative_front}
 use Rattle.sf_presented.specs.Presented.{IsPresentedBy}
 use Rattle.sf_chase.specs.ColumnPages.{ImagesModulo}
 use Rattle.sf_chase.proofs.Filtrations.ColumnParts.{ImagesModulo-sub}
 use Rattle.sf_bicomplex.specs.Bicomplexes.{Bicomplex, IsBicomplex}
 use Rattle.sf_bicomplex.specs.InducedFiltrations.{IsTotalBoundary}
 use Rattle.sf_bicomplex.specs.TotalColumns.{total_degrees, total_map, total_module}
+use Rattle.sf_bicomplex.proofs.Columns.Splits.{first_of_sum}
 use Rattle.sf_bicomplex.proofs.Filtrations.PartVectors.{combination}
 use Rattle.sf_bicomplex.proofs.Filtrations.TotalBoundaries.{boundaries-submodule, total_boundaries-same}
 use Rattle.sf_bicomplex.proofs.TotalComplexes.Diagonals.{total_map-rows}
@@ -61,12 +60,9 @@ module _ (b : Bicomplex) (h : IsBicomplex b) (above n below : ℤ) (first : n �
       let image = combination b h above n below first last rows matrix d element in
       let bound = (boundaries-submodule b h above n first).module_like.vectors s.first s.in_module in
       let second : image.0 ≡ s.second.terms = ap (λ (x : Vector). x.terms) s.in_span.value in
-      let front : s.first.terms ≡ row_sum b.ring (row_sum b.ring s.first.terms image.0) (negative b.ring.modulus image.0) =
-      sym (add-negative_front (place_keys b.ring.weights) b.ring.modulus h.is_ring.modulus s.first.terms image.0
-      bound.canonical image.1.canonical) in
       let whole : row_sum b.ring s.first.terms image.0 ≡ v.0 = ap (row_sum b.ring s.first.terms) second ∙ s.sum in
       let rest : s.first.terms ≡ row_sum b.ring v.0 (negative b.ring.modulus image.0) =
-      subst (λ ts. s.first.terms ≡ row_sum b.ring ts (negative b.ring.modulus image.0)) whole front in
+      first_of_sum b.ring h.is_ring s.first.terms image.0 v.0 bound.canonical image.1.canonical whole in
       let sub =
       ImagesModulo-sub (total_group b h above d) (total_group b h n d) (total_group b h below d)
       (total_image b h above n first d) (total_image b h n below last d) (total-differential b h above n first d)

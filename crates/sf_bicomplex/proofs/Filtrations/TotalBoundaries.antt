@@ -3,7 +3,6 @@ use Rattle.std.proofs.Common.{◌≡◌, sym, ap, ◌∙◌, subst, refl, ℤ, p
 use Rattle.sf_algebra.specs.Multiples.{negative}
 use Rattle.sf_algebra.specs.VectorOperations.{row_sum}
 use Rattle.sf_algebra.specs.Vectors.{IsVector, Vector}
-use Rattle.sf_algebra.proofs.Multiplying.Keys.{place_keys}
 use Rattle.sf_algebra.proofs.Vectors.VectorGroups.{vectors_of_degree}
 use Rattle.sf_algebra.proofs.GradedMatrices.Stacks.{IsMatrix-stacked}
 use Rattle.sf_groebner.specs.Spans.{InSpan}
@@ -11,11 +10,11 @@ use Rattle.sf_groebner.proofs.MapsOnHomology.EqualModulo.{add-negative_again}
 use Rattle.sf_groebner.proofs.PartsOfBases.StackedSpans.{InSpan-stacked, InSpan-stacked_sum}
 use Rattle.sf_groebner.proofs.Spanning.SpanCombinations.{span_submodule}
 use Rattle.sf_groebner.proofs.Spanning.Submodules.{IsSubmodule}
-use Rattle.sf_groebner.proofs.Uniqueness.Subtractions.{add-negative_front}
 use Rattle.sf_chase.specs.ColumnPages.{ImagesModulo}
 use Rattle.sf_bicomplex.specs.Bicomplexes.{Bicomplex, IsBicomplex}
 use Rattle.sf_bicomplex.specs.InducedFiltrations.{IsTotalBoundary}
 use Rattle.sf_bicomplex.specs.TotalColumns.{total_degrees, total_map, total_module}
+use Rattle.sf_bicomplex.proofs.Columns.Splits.{first_of_sum}
 use Rattle.sf_bicomplex.proofs.Pages.NearVectors.{AreSame}
 use Rattle.sf_bicomplex.proofs.TotalComplexes.Diagonals.{IsMatrix-total_map, total_map-rows}
 use Rattle.sf_bicomplex.proofs.TotalComplexes.TotalGroups.{IsMatrix-total_module, total_group, total_image, total_ring}
@@ -46,10 +45,9 @@ module _ (b : Bicomplex) (h : IsBicomplex b) (n m : ℤ) (lower : m ≡ n -ℤ p
         let first = (lowest-submodule b h m b.columns).module_like.vectors s.first s.in_module in
         let image = total_image b h n m lower d element in
         let second : image.0 ≡ s.second.terms = ap (λ (x : Vector). x.terms) s.in_span.value in
+        let whole : row_sum b.ring s.first.terms image.0 ≡ v.0 = ap (row_sum b.ring s.first.terms) second ∙ s.sum in
         let rest : s.first.terms ≡ row_sum b.ring v.0 (negative b.ring.modulus image.0) =
-        sym (add-negative_front (place_keys b.ring.weights) b.ring.modulus h.is_ring.modulus s.first.terms image.0
-        first.canonical image.1.canonical)
-        ∙ ap (λ ts. row_sum b.ring ts (negative b.ring.modulus image.0)) (ap (row_sum b.ring s.first.terms) second ∙ s.sum) in (
+        first_of_sum b.ring h.is_ring s.first.terms image.0 v.0 first.canonical image.1.canonical whole in (
           element,
           tt,
           subst (InSpan (total_module b m)) (λ i. record { degree = s.first_degree i; terms = rest i }) s.in_module,

@@ -67,30 +67,30 @@ module _ (ring : Ring) (prime : IsOverField ring) (source target : List ℤ) (N 
   positive : IsRing ring
   positive = field_ring prime
 
-  source_module : IsSubmodule ring source N
+  pub source_module : IsSubmodule ring source N
   source_module = IsSubmodule-spanned ring source positive N n
 
-  bounds_module : IsSubmodule ring source B
+  pub bounds_module : IsSubmodule ring source B
   bounds_module = IsSubmodule-spanned ring source positive B b
 
-  target_module : IsSubmodule ring target M
+  pub target_module : IsSubmodule ring target M
   target_module = IsSubmodule-spanned ring target positive M m
 
   -- combinations of generators
-  target-combined : (c : Vector) → IsVector ring (degrees_of hs) c → M (combined h c)
+  pub target-combined : (c : Vector) → IsVector ring (degrees_of hs) c → M (combined h c)
   target-combined c e =
       target_module.combinations hs (minimal-inside ring target M A hs other.generators_minimal) c.degree c.terms
       e.homogeneous
 
   -- what corresponds to a vector is unique modulo A
-  unique : (u w x : Vector) → F u w → F u x → AreEqualModulo ring A w x
+  pub unique : (u w x : Vector) → F u w → F u x → AreEqualModulo ring A w x
   unique u w x e k =
       f.classes u u w x e k
       (AreEqualModulo-refl ring positive source B bounds_module u
       (source_module.module_like.vectors u (f.first u w e)).canonical)
 
   -- a vector less 0
-  less_zero : (degrees : List ℤ) (v : Vector) → IsVector ring degrees v
+  pub less_zero : (degrees : List ℤ) (v : Vector) → IsVector ring degrees v
       → vector_difference ring v (record { degree = v.degree; terms = [] }) ≡ v
   less_zero degrees v e = λ i. record { degree = v.degree; terms = row_sum-nil ring positive.modulus v.terms e.canonical i }
 
@@ -178,13 +178,13 @@ module _ (ring : Ring) (prime : IsOverField ring) (source target : List ℤ) (N 
     abbrev mm : Matrix
     mm = matrix_of ring (degrees_of hs) ms
 
-    mm-matrix : IsMatrix mm
+    pub mm-matrix : IsMatrix mm
     mm-matrix = rows_coefficients gs ms describes
 
-    mm-degrees : degrees_of ms ≡ degrees_of gs
+    pub mm-degrees : degrees_of ms ≡ degrees_of gs
     mm-degrees = rows_degrees gs ms describes
 
-    mm-vector : (c : Vector) → IsVector ring (degrees_of gs) c → IsVector ring (degrees_of hs) (combined mm c)
+    pub mm-vector : (c : Vector) → IsVector ring (degrees_of gs) c → IsVector ring (degrees_of hs) (combined mm c)
     mm-vector c e =
         IsVector-row_combination mm positive.modulus mm-matrix c
         (subst (λ ds. IsVector ring ds c) (sym mm-degrees) e)

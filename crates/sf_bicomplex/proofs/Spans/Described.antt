@@ -1,13 +1,17 @@
 -- The theorems on described correspondences, for presentations by any matrices.
-use Rattle.std.proofs.Common.{◌≡◌, List, sym, subst, ℤ}
+use Rattle.std.proofs.Common.{◌↔◌, [], ◌≡◌, List, sym, subst, ℤ}
 use Rattle.sf_algebra.specs.Matrices.{Matrix, degrees_of}
+use Rattle.sf_algebra.specs.MatrixOperations.{stacked}
 use Rattle.sf_algebra.specs.Rings.{IsOverField, Ring}
-use Rattle.sf_algebra.specs.Vectors.{Vector}
+use Rattle.sf_algebra.specs.Vectors.{IsVector, Vector}
 use Rattle.sf_algebra.proofs.Operators.Correspondences.{converse}
+use Rattle.sf_groebner.specs.Homology.{IsCycle}
 use Rattle.sf_groebner.specs.MinimalGenerators.{matrix_of}
 use Rattle.sf_groebner.specs.Presentations.{IsModuleMap, IsPresentation}
+use Rattle.sf_groebner.specs.Spans.{InSpan, IsCoefficients, combined}
 use Rattle.sf_presented.specs.Inverses.{AreInverseModulo}
 use Rattle.sf_bicomplex.specs.Descriptions.{Describes}
+use Rattle.sf_bicomplex.proofs.Spans.ClassKernels.{description-image, description-kernel}
 use Rattle.sf_bicomplex.proofs.Spans.ClassMaps.{IsClassMap, description-map, description_exists, one_description, there_and_back}
 use Rattle.sf_bicomplex.proofs.Spans.SpannedModules.{IsSpanned}
 
@@ -97,3 +101,29 @@ module _ (ring : Ring) (prime : IsOverField ring) (source target : List ℤ) (N 
             there_and_back ring prime target source M A N B m a n b (converse F) back f h.rows s.rows g.rows r.rows
             other_normal given_normal from.rows to.rows k.rows e.rows;
       }))
+
+  -- the kernel of the matrix, and its span with the relations
+  pub described-kernel : (z : Matrix) → Describes F h s g z → (c : Vector)
+      → IsCycle z s c ↔ (IsCoefficients g c × F (combined g c) (record { degree = c.degree; terms = [] }))
+  described-kernel z =
+      as_given (λ x y. Describes F y.0 y.1 x.0 z → (c : Vector)
+      → IsCycle z y.1 c ↔ (IsCoefficients x.0 c × F (combined x.0 c) (record { degree = c.degree; terms = [] })))
+      (λ e c. subst
+      (λ (d : Matrix). IsCycle d (matrix_of ring (degrees_of h.rows) s.rows) c
+      ↔ (IsVector ring (degrees_of g.rows) c
+      × F (combined (matrix_of ring source g.rows) c) (record { degree = c.degree; terms = [] })))
+      (sym (same_description ring target F h.rows s.rows (matrix_of ring source g.rows) z e))
+      (description-kernel ring prime source target N B M A n b m a F f g.rows r.rows h.rows s.rows given_normal
+      other_normal z.rows e.rows c))
+
+  pub described-image : (z : Matrix) → Describes F h s g z → (c : Vector)
+      → InSpan (stacked z s) c ↔ (IsCoefficients h c × (u : Vector) × F u (combined h c))
+  described-image z =
+      as_given (λ x y. Describes F y.0 y.1 x.0 z → (c : Vector)
+      → InSpan (stacked z y.1) c ↔ (IsCoefficients y.0 c × (u : Vector) × F u (combined y.0 c)))
+      (λ e c. subst
+      (λ (d : Matrix). InSpan (stacked d (matrix_of ring (degrees_of h.rows) s.rows)) c
+      ↔ (IsVector ring (degrees_of h.rows) c × (u : Vector) × F u (combined (matrix_of ring target h.rows) c)))
+      (sym (same_description ring target F h.rows s.rows (matrix_of ring source g.rows) z e))
+      (description-image ring prime source target N B M A n b m a F f g.rows r.rows h.rows s.rows given_normal
+      other_normal z.rows e.rows c))

@@ -12,7 +12,6 @@ use Rattle.sf_algebra.proofs.GradedMatrices.MatrixProducts.{IsMatrix-matrix_prod
 use Rattle.sf_algebra.proofs.GradedMatrices.MatrixRows.{with_terms}
 use Rattle.sf_algebra.proofs.GradedMatrices.Stacks.{AllByRecursion-map, IsMatrix-stacked, degrees-with_terms}
 use Rattle.sf_algebra.proofs.Monomials.Weights.{field_ring}
-use Rattle.sf_algebra.proofs.Multiplying.Keys.{place_keys}
 use Rattle.sf_algebra.proofs.Basics.Lists.{AllByRecursion-weaken}
 use Rattle.sf_algebra.proofs.Vectors.Rows.{row_combination-matrix_product}
 use Rattle.sf_groebner.specs.Maps.{AreEqualModulo}
@@ -30,11 +29,11 @@ use Rattle.sf_groebner.proofs.Spanning.Submodules.{IsSubmodule}
 use Rattle.sf_groebner.proofs.Uniqueness.PresentedModules.{IsPresentation-same}
 use Rattle.sf_groebner.proofs.Uniqueness.Presentations.{unique_presentation}
 use Rattle.sf_groebner.proofs.Uniqueness.ReducedCoordinates.{InSpan-minimal, InSpan-minimal_inside}
-use Rattle.sf_groebner.proofs.Uniqueness.Subtractions.{add-negative_front}
 use Rattle.sf_groebner.proofs.Uniqueness.UniqueBases.{unique_reduced}
 use Rattle.sf_presented.specs.Presented.{IsPresentedBy}
 use Rattle.sf_presented.proofs.Generating.{presented}
 use Rattle.sf_bicomplex.specs.Pages.{IsNear}
+use Rattle.sf_bicomplex.proofs.Columns.Splits.{first_of_sum}
 use Rattle.sf_bicomplex.proofs.Pages.NearVectors.{on_terms}
 
 -- N is the span of a matrix over a free module
@@ -210,9 +209,7 @@ module _ (ring : Ring) (prime : IsOverField ring) where
               let second_canonical = subst (λ (x : Vector). IsCanonicalRow ring x.terms) value image.canonical in
               let first = submodule.module_like.vectors s.first ((n.spans s.first).1 s.in_module) in
               let rest : s.first.terms ≡ row_sum ring v.terms (negative ring.modulus s.second.terms) =
-              sym (add-negative_front (place_keys ring.weights) ring.modulus positive.modulus s.first.terms
-              s.second.terms first.canonical second_canonical)
-              ∙ ap (λ ts. row_sum ring ts (negative ring.modulus s.second.terms)) s.sum in
+              first_of_sum ring positive s.first.terms s.second.terms v.terms first.canonical second_canonical s.sum in
               record {
                 vector = all.module_like.vectors v e;
                 source = a;
