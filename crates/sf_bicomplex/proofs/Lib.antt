@@ -3,3 +3,4 @@ pub mod TotalComplexes
 pub mod Pages
 pub mod Filtrations
 pub mod Spans
+pub mod Examples

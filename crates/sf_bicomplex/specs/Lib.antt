@@ -9,3 +9,4 @@ pub mod Descriptions
 pub mod ExistenceLaws
 pub mod NextPages
 pub mod NextPageLaws
+pub mod TailExample

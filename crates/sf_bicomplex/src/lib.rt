@@ -4,12 +4,14 @@
 //! contract of each is a law of the definitions.
 #![tactic(auto)]
 
+mod example;
 mod existence;
 mod filtration;
 mod next;
 mod page;
 mod total;
 
+pub use example::tail;
 pub use existence::pages_have_matrices;
 pub use filtration::filtrations_have_last_pages;
 pub use next::next_pages_have_inverse_matrices;

@@ -1,0 +1,4 @@
+-- The worked example.
+pub mod FreeSpots
+pub mod TailLaws
+pub mod TailPages
