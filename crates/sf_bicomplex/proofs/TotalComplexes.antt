@@ -4,6 +4,7 @@ pub mod TotalSpans
 pub mod Diagonals
 pub mod TotalSteps
 pub mod TotalMaps
+pub mod ImageColumns
 pub mod Squares
 pub mod TotalGroups
 pub mod TotalLaws

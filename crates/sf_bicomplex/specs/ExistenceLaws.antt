@@ -28,6 +28,14 @@ HasOneDifferential =
     × ((d e : Matrix) → Describes (HasDifferential b r n m p) h others g d
     → Describes (HasDifferential b r n m p) h others g e → d ≡ e)
 
+-- the total complex has one homology in each degree
+abbrev pub HasOneTotalHomology : Type 0
+HasOneTotalHomology =
+    (b : Bicomplex) → IsBicomplex b → IsOverField b.ring → (n : ℤ)
+    → ((g : Matrix) × (relations : Matrix) × IsTotalHomology b n g relations)
+    × ((g relations h others : Matrix) → IsTotalHomology b n g relations → IsTotalHomology b n h others
+    → (g ≡ h) × (relations ≡ others))
+
 -- there is one part of homology in each column
 abbrev pub HasOnePart : Type 0
 HasOnePart =

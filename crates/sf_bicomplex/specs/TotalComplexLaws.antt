@@ -2,9 +2,10 @@
 -- 5.6.)
 use Rattle.std.specs.Prelude.{◌≡◌, ◌↔◌, ℕ, suc, ◌<◌, [], ℤ, pos, ◌-ℤ◌}
 use Rattle.sf_algebra.specs.MatrixOperations.{matrix_product}
+use Rattle.sf_algebra.specs.VectorOperations.{vector_sum}
 use Rattle.sf_algebra.specs.Vectors.{Vector, IsVector}
 use Rattle.sf_groebner.specs.Presentations.{IsModuleMap}
-use Rattle.sf_groebner.specs.Spans.{InSpan, combined}
+use Rattle.sf_groebner.specs.Spans.{InSpan, combined, combined_rows}
 use Rattle.sf_blocks.specs.DirectSums.{IsZeroModulo}
 use Rattle.sf_blocks.specs.TotalDifferentials.{total_differential}
 use Rattle.sf_bicomplex.specs.Bicomplexes.{Bicomplex, IsBicomplex}
@@ -41,3 +42,12 @@ abbrev pub HasHighestColumns : Type 0
 HasHighestColumns =
     (b : Bicomplex) → IsBicomplex b → (n : ℤ) (p : ℕ) (v : Vector) → StandsBelow b n (suc p) v
     → ((column_part b n p v).terms ≡ []) ↔ StandsBelow b n p v
+
+-- the column p of an image is dv of that column and dh of the next higher one
+abbrev pub HasColumnsOfImages : Type 0
+HasColumnsOfImages =
+    (b : Bicomplex) → IsBicomplex b → (n m : ℤ) → m ≡ n -ℤ pos 1 → (p : ℕ) → p < b.columns → (v : Vector)
+    → StandsBelow b n b.columns v
+    → column_part b m p (combined (total_map b n m) v)
+    ≡ vector_sum b.ring (combined_rows b.ring (b.vertical p (n -ℤ pos p)).rows (column_part b n p v))
+    (combined_rows b.ring (b.horizontal (suc p) (n -ℤ pos (suc p))).rows (column_part b n (suc p) v))

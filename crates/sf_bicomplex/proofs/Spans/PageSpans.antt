@@ -16,6 +16,7 @@ use Rattle.sf_algebra.proofs.GradedMatrices.Stacks.{AllByRecursion-map, IsMatrix
 use Rattle.sf_algebra.proofs.Monomials.Weights.{field_ring}
 use Rattle.sf_algebra.proofs.Vectors.HomogeneousVectors.{row_combination-identity}
 use Rattle.sf_algebra.proofs.Vectors.Rows.{row_combination-matrix_product, row_combination-nil}
+use Rattle.sf_groebner.specs.Homology.{IsCycle}
 use Rattle.sf_groebner.specs.MinimalGenerators.{matrix_of}
 use Rattle.sf_groebner.specs.Presentations.{IsRelation, IsZero}
 use Rattle.sf_groebner.specs.Spans.{InSpan}
@@ -185,14 +186,19 @@ module _ (b : Bicomplex) (h : IsBicomplex b) (prime : IsOverField b.ring) where
         (IsRelation (total_map b n m) (InSpan (total_module b m))) (IsSpanned-stands n k)
         (sent (InSpan (total_module b m)) (IsSpanned-module m)))
 
+    -- cycles of the total complex
+    pub IsSpanned-total_cycles : IsSpanned b.ring (total_degrees b n) (IsCycle (total_map b n m) (total_module b m))
+    IsSpanned-total_cycles = sent (InSpan (total_module b m)) (IsSpanned-module m)
+
+    -- and its boundaries one degree lower
+    pub IsSpanned-all_boundaries : IsSpanned b.ring (total_degrees b m) (IsTotalBoundary b n m)
+    IsSpanned-all_boundaries =
+        IsSpanned-span b.ring (total_degrees b m) (stacked (total_map b n m) (total_module b m)) refl refl
+        (IsMatrix-stacked (total_map b n m) (total_module b m) (sym (total_ring b h m (pos 0))) refl
+        (IsMatrix-total_map b h n m lower) (IsMatrix-total_module b h m (pos 0)))
+
   module _ (above n below : ℤ) (first : n ≡ above -ℤ pos 1) (last : below ≡ n -ℤ pos 1) (g : Matrix)
       (rings : g.ring ≡ b.ring) (targets : g.target ≡ total_degrees b n) (matrix : IsMatrix g) where
-    pub IsSpanned-total_boundaries : IsSpanned b.ring (total_degrees b n) (IsTotalBoundary b above n)
-    IsSpanned-total_boundaries =
-        IsSpanned-span b.ring (total_degrees b n) (stacked (total_map b above n) (total_module b n)) refl refl
-        (IsMatrix-stacked (total_map b above n) (total_module b n) (sym (total_ring b h n (pos 0))) refl
-        (IsMatrix-total_map b h above n first) (IsMatrix-total_module b h n (pos 0)))
-
     pub IsSpanned-parts : (k : ℕ) → IsSpanned b.ring (row_degrees g) (IsOfPart b above n below g k)
     IsSpanned-parts k =
         let B : Vector → Type 0 = IsNear b.ring (total_degrees b n) (λ v. v) (IsCycleBelow b n below k)
@@ -204,4 +210,4 @@ module _ (b : Bicomplex) (h : IsBicomplex b) (prime : IsOverField b.ring) where
         ))
         (IsSpanned-relation b.ring prime (total_degrees b n) g rings targets matrix B
         (near_itself (total_degrees b n) (IsCycleBelow b n below k) (IsTotalBoundary b above n)
-        (IsSpanned-cycles_below n below last k) IsSpanned-total_boundaries))
+        (IsSpanned-cycles_below n below last k) (IsSpanned-all_boundaries above n first)))

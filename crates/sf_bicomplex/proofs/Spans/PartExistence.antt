@@ -4,18 +4,41 @@ use Rattle.sf_algebra.specs.Matrices.{IsMatrix, Matrix, degrees_of}
 use Rattle.sf_algebra.specs.Rings.{IsOverField}
 use Rattle.sf_algebra.specs.Vectors.{Vector}
 use Rattle.sf_algebra.proofs.Operators.Correspondences.{converse}
+use Rattle.sf_groebner.specs.Homology.{IsCycle}
 use Rattle.sf_groebner.specs.MinimalGenerators.{matrix_of}
+use Rattle.sf_groebner.specs.Presentations.{IsPresentation}
 use Rattle.sf_presented.specs.Inverses.{AreInverseModulo}
 use Rattle.sf_bicomplex.specs.Bicomplexes.{Bicomplex, IsBicomplex}
 use Rattle.sf_bicomplex.specs.Descriptions.{Describes}
-use Rattle.sf_bicomplex.specs.InducedFiltrations.{HasLeadingColumn, IsOfPart, IsPartOfHomology, IsTotalHomology}
+use Rattle.sf_bicomplex.specs.InducedFiltrations.{HasLeadingColumn, IsOfPart, IsPartOfHomology, IsTotalBoundary, IsTotalHomology}
 use Rattle.sf_bicomplex.specs.Pages.{IsBoundaryOfPage, IsCycleOfPage, IsPage}
-use Rattle.sf_bicomplex.specs.TotalColumns.{place, total_degrees}
+use Rattle.sf_bicomplex.specs.TotalColumns.{place, total_degrees, total_map, total_module}
+use Rattle.sf_bicomplex.proofs.TotalComplexes.TotalGroups.{total_ring}
 use Rattle.sf_bicomplex.proofs.Filtrations.HomologyParts.{matrix, next-lower, presented, same}
 use Rattle.sf_bicomplex.proofs.Spans.Described.{described, described-inverse}
-use Rattle.sf_bicomplex.proofs.Spans.PageSpans.{IsSpanned-boundaries, IsSpanned-cycles, IsSpanned-parts}
+use Rattle.sf_bicomplex.proofs.Spans.PageSpans.{IsSpanned-all_boundaries, IsSpanned-boundaries, IsSpanned-cycles, IsSpanned-parts, IsSpanned-total_cycles}
 use Rattle.sf_bicomplex.proofs.Spans.PartMaps.{parts-class_map, parts-class_map_back}
 use Rattle.sf_bicomplex.proofs.Spans.SpannedModules.{IsSpanned, spanned-one_presentation, spanned-presentation}
+
+-- the homology of the total complex in one degree
+pub one_total_homology : (b : Bicomplex) → IsBicomplex b → IsOverField b.ring → (n : ℤ)
+    → ((g : Matrix) × (relations : Matrix) × IsTotalHomology b n g relations)
+    × ((g relations other others : Matrix) → IsTotalHomology b n g relations → IsTotalHomology b n other others
+    → (g ≡ other) × (relations ≡ others))
+one_total_homology b h prime n =
+    let above = n +ℤ pos 1 in
+    let below = n -ℤ pos 1 in
+    let N : Vector → Type 0 = IsCycle (total_map b n below) (total_module b below) in
+    let B : Vector → Type 0 = IsTotalBoundary b above n in
+    let cycles = IsSpanned-total_cycles b h prime n below refl in
+    let boundaries = IsSpanned-all_boundaries b h prime above n (next-lower n above refl) in
+    subst (λ q. ((g : Matrix) × (relations : Matrix) × IsPresentation q (total_degrees b n) N B g relations)
+    × ((g relations other others : Matrix) → IsPresentation q (total_degrees b n) N B g relations
+    → IsPresentation q (total_degrees b n) N B other others → (g ≡ other) × (relations ≡ others)))
+    (sym (total_ring b h n (pos 0))) (
+      spanned-presentation b.ring prime (total_degrees b n) N B cycles boundaries,
+      spanned-one_presentation b.ring prime (total_degrees b n) N B cycles boundaries,
+    )
 
 module _ (b : Bicomplex) (h : IsBicomplex b) (prime : IsOverField b.ring) (n : ℤ) (generators relations : Matrix)
     (homology : IsTotalHomology b n generators relations) (p : ℕ) (inside : p < b.columns) where

@@ -4,15 +4,17 @@ use Rattle.std.proofs.lemmas.Bool.{cases_lt}
 use Rattle.std.specs.List.{AllByRecursion}
 use Rattle.sf_algebra.specs.MatrixOperations.{part_terms}
 use Rattle.sf_algebra.specs.Terms.{Term}
+use Rattle.sf_algebra.specs.VectorOperations.{vector_sum}
 use Rattle.sf_algebra.specs.Vectors.{IsVector, Place, Vector}
 use Rattle.sf_algebra.proofs.GradedMatrices.PartTerms.{part_terms-inside, part_terms-outside}
 use Rattle.sf_groebner.specs.Presentations.{IsModuleMap}
-use Rattle.sf_groebner.specs.Spans.{InSpan, combined}
+use Rattle.sf_groebner.specs.Spans.{InSpan, combined, combined_rows}
 use Rattle.sf_blocks.specs.TotalDifferentials.{total_differential}
 use Rattle.sf_bicomplex.specs.Bicomplexes.{Bicomplex, IsBicomplex}
 use Rattle.sf_bicomplex.specs.TotalColumns.{StandsBelow, column_part, column_start, place, spots, total_degrees, total_map, total_module}
 use Rattle.sf_bicomplex.proofs.Columns.ColumnParts.{IsVector-taken, part_terms-behind}
 use Rattle.sf_bicomplex.proofs.TotalComplexes.Diagonals.{IsMatrix-total_map, total_map-rows, total_map-same}
+use Rattle.sf_bicomplex.proofs.TotalComplexes.ImageColumns.{image-columns}
 use Rattle.sf_bicomplex.proofs.TotalComplexes.TotalGroups.{total-differential, total_image, total_ring}
 use Rattle.sf_bicomplex.proofs.TotalComplexes.TotalMaps.{total-sends}
 use Rattle.sf_bicomplex.proofs.TotalComplexes.TotalModules.{IsRange-column, lowest-submodule}
@@ -53,6 +55,18 @@ module _ (b : Bicomplex) (h : IsBicomplex b) where
     λ e. relations-taken b h n v.degree b.columns p inside v.terms
         ((lowest-submodule b h n b.columns).module_like.vectors v e) e,
   )
+
+pub columns_of_images : (b : Bicomplex) → IsBicomplex b → (n m : ℤ) → m ≡ n -ℤ pos 1 → (p : ℕ) → p < b.columns
+    → (v : Vector) → StandsBelow b n b.columns v
+    → column_part b m p (combined (total_map b n m) v)
+    ≡ vector_sum b.ring (combined_rows b.ring (b.vertical p (n -ℤ pos p)).rows (column_part b n p v))
+    (combined_rows b.ring (b.horizontal (suc p) (n -ℤ pos (suc p))).rows (column_part b n (suc p) v))
+columns_of_images b h n m lower p inside v e =
+    λ i. record {
+      degree = v.degree;
+      terms =
+          image-columns b h n m lower v.degree b.columns p inside v.terms e.vector i;
+    }
 
 -- terms from a position on stand further on where none is read off
 pub behind-part_terms : (from to : ℕ) (ts : List (Term Place)) → AllByRecursion (λ t. from ≤ t.at.position) ts

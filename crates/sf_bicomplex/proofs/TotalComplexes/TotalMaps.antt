@@ -98,22 +98,27 @@ module _ (b : Bicomplex) (h : IsBicomplex b) (n m : ℤ) (lower : m ≡ n -ℤ p
       ((span_submodule (place b m k) (here_ring b h m d k) (h.modules k (m -ℤ pos k)).matrix).module_like.vectors
       (record { degree = d; terms = ts }) e)
 
-  horizontal-sends : (k : ℕ) (us : List (Term Place))
-      → IsVector b.ring (place b n k).target (record { degree = d; terms = us })
-      → InSpan (place b n k) (record { degree = d; terms = us })
-      → InSpan (lowest_module b m k) (record { degree = d; terms = row_combination b.ring (u k).rows us })
-  horizontal-sends zero us x e =
+  -- out of column 0 dh gives 0
+  pub dh-nothing : (us : List (Term Place)) → IsVector b.ring (place b n 0).target (record { degree = d; terms = us })
+      → row_combination b.ring (horizontal b h n m lower 0).rows us ≡ []
+  dh-nothing us x =
       let matrix : Matrix = record { ring = b.ring; target = []; rows = (u 0).rows } in
       let same : u 0 ≡ matrix = λ i. record {
         ring = horizontal_ring b h n 0 i;
         target = h.leaving_target (n -ℤ pos 0) i;
         rows = (u 0).rows;
       } in
-      let vector =
-      IsVector-row_combination matrix h.is_ring.modulus (subst IsMatrix same (horizontal_matrix b h n 0))
+      no_generators b.ring _
+      (IsVector-row_combination matrix h.is_ring.modulus (subst IsMatrix same (horizontal_matrix b h n 0))
       (record { degree = d; terms = us })
-      (subst (λ es. IsVector b.ring es (record { degree = d; terms = us })) (sym (horizontal_source b h n 0)) x) in
-      subst (λ ts. InSpan (lowest_module b m 0) (record { degree = d; terms = ts })) (sym (no_generators b.ring _ vector))
+      (subst (λ es. IsVector b.ring es (record { degree = d; terms = us })) (sym (horizontal_source b h n 0)) x))
+
+  horizontal-sends : (k : ℕ) (us : List (Term Place))
+      → IsVector b.ring (place b n k).target (record { degree = d; terms = us })
+      → InSpan (place b n k) (record { degree = d; terms = us })
+      → InSpan (lowest_module b m k) (record { degree = d; terms = row_combination b.ring (u k).rows us })
+  horizontal-sends zero us x e =
+      subst (λ ts. InSpan (lowest_module b m 0) (record { degree = d; terms = ts })) (sym (dh-nothing us x))
       (zero-inside b.ring h.is_ring [] (InSpan (lowest_module b m 0)) (lowest-submodule b h m 0) d)
   horizontal-sends (suc k) us x e =
       let q = n -ℤ pos (suc k) in
@@ -127,6 +132,34 @@ module _ (b : Bicomplex) (h : IsBicomplex b) (n m : ℤ) (lower : m ≡ n -ℤ p
       (put-summands b h m d k ts [] (in_place k ts there) there
       (zero-inside b.ring h.is_ring (lowest_degrees b m k) (InSpan (lowest_module b m k)) (lowest-submodule b h m k) d))
 
+  -- what the map gives of a vector of one more column
+  pub next-value : (k : ℕ) (ts : List (Term Place))
+      → IsVector b.ring (lowest_degrees b n (suc k)) (record { degree = d; terms = ts })
+      → row_combination b.ring (total_rows b n (suc k)) ts
+      ≡ row_sum b.ring
+      (row_combination b.ring (vertical b h n m lower k).rows (part_terms 0 (length (place b n k).target) ts)
+      ++ moved (length (place b m k).target)
+      (row_combination b.ring (horizontal b h n m lower k).rows (part_terms 0 (length (place b n k).target) ts)))
+      (moved (length (place b m k).target) (row_combination b.ring (total_rows b n k)
+      (part_terms (length (place b n k).target) (length (place b n k).target + length (lowest_degrees b n k)) ts)))
+  next-value k ts x =
+      let size = length (place b n k).target in
+      let us = part_terms 0 size ts in
+      let vs = part_terms size (size + length (lowest_degrees b n k)) ts in
+      let pair = vector-parts b.ring (place b n k).target (lowest_degrees b n k) d ts x in
+      let first = row_combination b.ring (v k).rows us in
+      let left = row_combination b.ring (u k).rows us in
+      let below = row_combination b.ring (total_rows b n k) vs in
+      let rows = (beside (v k) (w k)).rows in
+      let others_rows = (beside (zeros b h n m lower k) (rest b h n m lower k)).rows in
+      let long : length rows ≡ size = length-first b h n m lower k ∙ vertical-size b h n m lower k in
+      let sizes = target-size b h n m lower k in
+      ap (row_combination b.ring (total_rows b n (suc k))) (sym pair.2 ∙ ap (λ s. us ++ moved s vs) (sym long))
+      ∙ row_combination-stacked b.ring h.is_ring.modulus rows others_rows us vs
+      (subst (λ s. StandsWithin s us) (sym long) (StandsWithin-vector b.ring (place b n k).target _ pair.0))
+      ∙ (λ i. row_sum b.ring (first-value k us pair.0 i) (second-value k vs pair.1 i))
+      ∙ (λ i. row_sum b.ring (first ++ moved (sizes i) left) (moved (sizes i) below))
+
   next-sends : (k : ℕ) → ((ts : List (Term Place))
       → IsVector b.ring (lowest_degrees b n k) (record { degree = d; terms = ts })
       → InSpan (lowest_module b n k) (record { degree = d; terms = ts })
@@ -138,9 +171,8 @@ module _ (b : Bicomplex) (h : IsBicomplex b) (n m : ℤ) (lower : m ≡ n -ℤ p
       (record { degree = d; terms = row_combination b.ring (total_rows b n (suc k)) ts })
   next-sends k others ts x e =
       let size = length (place b n k).target in
-      let more = length (lowest_degrees b n k) in
       let us = part_terms 0 size ts in
-      let vs = part_terms size (size + more) ts in
+      let vs = part_terms size (size + length (lowest_degrees b n k)) ts in
       let parts =
       InSpan-parts (place b n k) (lowest_module b n k) (here_ring b h n d k)
       (place_ring b h n d k ∙ sym (IsTo-lowest b h n k).ring_of) (h.modules k (n -ℤ pos k)).matrix
@@ -151,22 +183,11 @@ module _ (b : Bicomplex) (h : IsBicomplex b) (n m : ℤ) (lower : m ≡ n -ℤ p
       let first = row_combination b.ring (v k).rows us in
       let left = row_combination b.ring (u k).rows us in
       let below = row_combination b.ring (total_rows b n k) vs in
-      let rows = (beside (v k) (w k)).rows in
-      let others_rows = (beside (zeros b h n m lower k) (rest b h n m lower k)).rows in
-      let long : length rows ≡ size = length-first b h n m lower k ∙ vertical-size b h n m lower k in
-      let split : row_combination b.ring (total_rows b n (suc k)) ts
-      ≡ row_sum b.ring (first ++ moved (length (v k).target) left) (moved (length (v k).target) below) =
-      ap (row_combination b.ring (total_rows b n (suc k))) (sym pair.2 ∙ ap (λ s. us ++ moved s vs) (sym long))
-      ∙ row_combination-stacked b.ring h.is_ring.modulus rows others_rows us vs
-      (subst (λ s. StandsWithin s us) (sym long) (StandsWithin-vector b.ring (place b n k).target _ pair.0))
-      ∙ (λ i. row_sum b.ring (first-value k us pair.0 i) (second-value k vs pair.1 i)) in
-      let sizes = target-size b h n m lower k in
       let dv = vertical-sends k us parts.0 in
       let upper = put-summands b h m d k first left (in_place k first dv) dv (horizontal-sends k us pair.0 parts.0) in
       let under = put-summands b h m d k [] below (IsVector-nil b.ring (place b m k).target d) (here_zero b h m d k)
       (others vs pair.1 parts.1) in
-      subst (λ ws. InSpan (lowest_module b m (suc k)) (record { degree = d; terms = ws }))
-      (sym (split ∙ (λ i. row_sum b.ring (first ++ moved (sizes i) left) (moved (sizes i) below))))
+      subst (λ ws. InSpan (lowest_module b m (suc k)) (record { degree = d; terms = ws })) (sym (next-value k ts x))
       ((submodule_closed b.ring h.is_ring (lowest_degrees b m (suc k)) (InSpan (lowest_module b m (suc k)))
       (lowest-submodule b h m (suc k))).sums d _ _ upper under)
 

@@ -1,5 +1,5 @@
 use Rattle.sf_bicomplex.proofs.TotalComplexes.Squares.{zero_squares}
-use Rattle.sf_bicomplex.proofs.TotalComplexes.TotalLaws.{columns_in_places, highest_columns, keeps_columns, total_maps}
+use Rattle.sf_bicomplex.proofs.TotalComplexes.TotalLaws.{columns_in_places, columns_of_images, highest_columns, keeps_columns, total_maps}
 use Rattle.sf_bicomplex.proofs.total.total_complexes.Goals as goal
 
 pub returns : goal.returns
@@ -8,5 +8,6 @@ returns c = record {
   squares = zero_squares;
   keeps = keeps_columns;
   columns = columns_in_places;
+  images = columns_of_images;
   highest = highest_columns;
 }
