@@ -4,3 +4,4 @@ pub mod Pages
 pub mod Filtrations
 pub mod Spans
 pub mod Examples
+pub mod Staircases

@@ -9,4 +9,5 @@ pub mod Descriptions
 pub mod ExistenceLaws
 pub mod NextPages
 pub mod NextPageLaws
+pub mod ResolvedRows
 pub mod TailExample

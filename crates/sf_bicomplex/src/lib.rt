@@ -9,6 +9,7 @@ mod existence;
 mod filtration;
 mod next;
 mod page;
+mod resolved;
 mod total;
 
 pub use example::tail;
@@ -16,4 +17,5 @@ pub use existence::pages_have_matrices;
 pub use filtration::filtrations_have_last_pages;
 pub use next::next_pages_have_inverse_matrices;
 pub use page::pages_are_homology;
+pub use resolved::resolved_rows_give_homology;
 pub use total::total_complexes;

@@ -58,7 +58,7 @@ module _ (a b : Matrix) (is_ring : IsRing a.ring) (rings : a.ring ≡ b.ring) (m
       InSpan-summands a b is_ring rings ma mb d _ _ parts.0 parts.1
       (subst (λ us. InSpan (direct_sum a b) (record { degree = d; terms = us })) (sym parts.2) h)
 
-moved-nothing : (ts : List (Term Place)) → moved 0 ts ≡ ts
+pub moved-nothing : (ts : List (Term Place)) → moved 0 ts ≡ ts
 moved-nothing [] = refl
 moved-nothing (t ∷ ts) =
     let same : 0 + t.at.position ≡ t.at.position = omega arith in

@@ -1,0 +1,9 @@
+ghost use Rattle.sf_bicomplex.specs.ResolvedRows.{HasBoundariesThatAreSet, HasCyclesThatAreSet, SetsComplex};
+
+/// Where the rows of a bicomplex of free modules are exact but for the highest column, and a complex is set there, the total
+/// complex has the homology of that complex.
+pub fn resolved_rows_give_homology()
+    ensures sets { SetsComplex }
+    ensures boundaries { HasBoundariesThatAreSet }
+    ensures cycles { HasCyclesThatAreSet }
+{}
