@@ -112,9 +112,9 @@ module _ (b : Bicomplex) (h : IsBicomplex b) (k n m : ℤ) (above : n ≡ k -ℤ
       let column = D.put_column source in
       let parts = (total-differential b h k n above d).steps j u column in
       let value : C.taken (image u) ≡ taken =
-      vector_unique b.ring (place b n j).target d _ taken (put-across j inside source ∙ across.value) in
+      vector_unique b.ring (place b n j).target d (C.taken (image u)) taken (put-across j inside source ∙ across.value) in
       let nothing : C.taken parts.0 ≡ C.group.zero =
-      vector_unique b.ring (place b n j).target d _ _
+      vector_unique b.ring (place b n j).target d (C.taken parts.0) C.group.zero
       (part_terms-before (column_start b n (suc j)) (column_start b n j) (parts.0).0
       (AllByRecursion-weaken _ _ (λ x e. e.1) (parts.0).0 parts.2)) in
       (u, column, row-step Y j C v (image u) parts.0 parts.1 flat.0 parts.2 parts.3 parts.4 value nothing)
