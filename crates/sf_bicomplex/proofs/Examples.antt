@@ -1,4 +1,6 @@
--- The worked example.
+-- The worked examples.
 pub mod FreeSpots
 pub mod TailLaws
 pub mod TailPages
+pub mod ResolvedSpots
+pub mod ResolvedExample

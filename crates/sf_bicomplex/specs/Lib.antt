@@ -11,3 +11,4 @@ pub mod NextPages
 pub mod NextPageLaws
 pub mod ResolvedRows
 pub mod TailExample
+pub mod ResolvedExample

@@ -1,3 +1,4 @@
+ghost use Rattle.sf_bicomplex.specs.ResolvedExample.{HasClassThatIsSet, HasMultipleThatBounds, IsResolvingBicomplex, ResolvesExample};
 ghost use Rattle.sf_bicomplex.specs.TailExample.{HasTailBoundary, HasTailCycle, HasTailDifferential, IsTailBicomplex, RefusesNoTail};
 
 /// A bicomplex whose differential from column 2 to column 0 needs a tail in column 1.
@@ -7,4 +8,13 @@ pub fn tail()
     ensures no_tail { RefusesNoTail }
     ensures cycle { HasTailCycle }
     ensures boundary { HasTailBoundary }
+{}
+
+/// A bicomplex whose rows resolve a complex that presents R(1)/x: a class there that isn't zero is set as one of the total
+/// complex that isn't.
+pub fn row_resolution()
+    ensures bicomplex { IsResolvingBicomplex }
+    ensures resolves { ResolvesExample }
+    ensures class { HasClassThatIsSet }
+    ensures multiple { HasMultipleThatBounds }
 {}

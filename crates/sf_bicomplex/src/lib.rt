@@ -12,7 +12,7 @@ mod page;
 mod resolved;
 mod total;
 
-pub use example::tail;
+pub use example::{row_resolution, tail};
 pub use existence::pages_have_matrices;
 pub use filtration::filtrations_have_last_pages;
 pub use next::next_pages_have_inverse_matrices;

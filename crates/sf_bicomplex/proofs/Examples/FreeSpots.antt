@@ -31,6 +31,20 @@ free_from_zero target v none = record {
   value = λ i. record { degree = v.degree; terms = (row_combination-no_rows (plain 101) plain_ring [] ∙ sym none) i };
 }
 
+pub free-map : (source target : List ℤ) (rows : List Vector) → degrees_of rows ≡ source
+    → IsMatrix (matrix_of (plain 101) target rows)
+    → IsModuleMap (matrix_of (plain 101) source []) (matrix_of (plain 101) target []) (matrix_of (plain 101) target rows)
+free-map source target rows degrees matrix = record {
+  matrix = matrix;
+  source_ring = refl;
+  target_ring = refl;
+  source_degrees = degrees;
+  target_degrees = refl;
+  sends = λ v e. free_from_zero target (combined (matrix_of (plain 101) target rows) v)
+      (ap (row_combination (plain 101) rows) (span-no_rows (plain 101) plain_ring source v e)
+      ∙ row_combination-nil (plain 101) plain_ring.modulus rows);
+}
+
 module _ (source target : List ℤ) (ts : List (Term Place)) where
   pub with_rows-degrees : degrees_of (with_rows source target ts).rows ≡ source
   with_rows-degrees = each source
@@ -41,16 +55,8 @@ module _ (source target : List ℤ) (ts : List (Term Place)) where
 
   pub with_rows-map : IsMatrix (with_rows source target ts)
       → IsModuleMap (matrix_of (plain 101) source []) (matrix_of (plain 101) target []) (with_rows source target ts)
-  with_rows-map matrix = record {
-    matrix = matrix;
-    source_ring = refl;
-    target_ring = refl;
-    source_degrees = with_rows-degrees;
-    target_degrees = refl;
-    sends = λ v e. free_from_zero target (combined (with_rows source target ts) v)
-        (ap (row_combination (plain 101) (with_rows source target ts).rows) (span-no_rows (plain 101) plain_ring source v e)
-        ∙ row_combination-nil (plain 101) plain_ring.modulus (with_rows source target ts).rows);
-  }
+  with_rows-map matrix =
+      free-map source target (map (λ (d : ℤ). record { degree = d; terms = ts }) source) with_rows-degrees matrix
 
 -- no terms are a vector
 pub with_rows-nothing : (source target : List ℤ) → IsMatrix (with_rows source target [])

@@ -112,7 +112,7 @@ module _ (b : Bicomplex) (h : IsBicomplex b) (k n m : ℤ) (above : n ≡ k -ℤ
       let column = D.put_column source in
       let parts = (total-differential b h k n above d).steps j u column in
       let value : C.taken (image u) ≡ taken =
-      vector_unique b.ring (place b n j).target d (C.taken (image u)) taken (put-across j inside source ∙ across.value) in
+      vector_unique b.ring (place b n j).target d (C.taken (image u)) taken (◌∙◌ {a = (C.taken (image u)).0} (put-across j inside source) across.value) in
       let nothing : C.taken parts.0 ≡ C.group.zero =
       vector_unique b.ring (place b n j).target d (C.taken parts.0) C.group.zero
       (part_terms-before (column_start b n (suc j)) (column_start b n j) (parts.0).0
