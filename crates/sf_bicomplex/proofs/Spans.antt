@@ -11,3 +11,4 @@ pub mod PartMaps
 pub mod PartExistence
 pub mod NextMaps
 pub mod NextExistence
+pub mod IsomorphicClasses

@@ -3,3 +3,4 @@ pub mod FreeTotals
 pub mod ExactRows
 pub mod SetColumns
 pub mod ResolvedLaws
+pub mod SetHomology

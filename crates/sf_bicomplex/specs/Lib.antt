@@ -10,5 +10,6 @@ pub mod ExistenceLaws
 pub mod NextPages
 pub mod NextPageLaws
 pub mod ResolvedRows
+pub mod ResolvedHomology
 pub mod TailExample
 pub mod ResolvedExample

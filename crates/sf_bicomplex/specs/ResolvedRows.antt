@@ -52,5 +52,5 @@ abbrev pub HasCyclesThatAreSet : Type 0
 HasCyclesThatAreSet =
     (b : Bicomplex) → IsBicomplex b → (top : ℕ) (a : Augmentation) → ResolvesRows b top a → (k n m : ℤ) → n ≡ k -ℤ pos 1
     → m ≡ n -ℤ pos 1 → (t : Vector) → IsVector b.ring (total_degrees b n) t → (combined (total_map b n m) t).terms ≡ []
-    → (c u : Vector) × IsSyzygy (a.map (n -ℤ pos top)) c × IsVector b.ring (total_degrees b k) u
+    → (c u : Vector) × IsSyzygy (a.map (n -ℤ pos top)) c × IsVector b.ring (total_degrees b k) u × (u.degree ≡ t.degree)
     × (t ≡ vector_sum b.ring (combined (a.set (n -ℤ pos top)) c) (combined (total_map b k n) u))

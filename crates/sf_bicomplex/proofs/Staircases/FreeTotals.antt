@@ -41,7 +41,7 @@ nothing-spanned ring positive m rings none v e =
     span-no_rows ring positive m.target v (subst (λ x. InSpan x v) same e)
 
 module _ (b : Bicomplex) (h : IsBicomplex b) (free : (p : ℕ) (q : ℤ) → (b.relations p q).rows ≡ []) where
-  lowest-no_rows : (n : ℤ) (k : ℕ) → (lowest_module b n k).rows ≡ []
+  pub lowest-no_rows : (n : ℤ) (k : ℕ) → (lowest_module b n k).rows ≡ []
   lowest-no_rows n zero = refl
   lowest-no_rows n (suc k) = direct_sum-no_rows (place b n k) (lowest_module b n k) (free k (n -ℤ pos k)) (lowest-no_rows n k)
 

@@ -146,7 +146,7 @@ module _ (b : Bicomplex) (h : IsBicomplex b) (top : ℕ) (a : Augmentation) (res
 
   pub cycles_that_are_set : (k n m : ℤ) → n ≡ k -ℤ pos 1 → m ≡ n -ℤ pos 1 → (t : Vector)
       → IsVector b.ring (total_degrees b n) t → (combined (total_map b n m) t).terms ≡ []
-      → (c u : Vector) × IsSyzygy (a.map (n -ℤ pos top)) c × IsVector b.ring (total_degrees b k) u
+      → (c u : Vector) × IsSyzygy (a.map (n -ℤ pos top)) c × IsVector b.ring (total_degrees b k) u × (u.degree ≡ t.degree)
       × (t ≡ vector_sum b.ring (combined (a.set (n -ℤ pos top)) c) (combined (total_map b k n) u))
   cycles_that_are_set k n m above lower t x cycle =
       let d = t.degree in
@@ -168,6 +168,7 @@ module _ (b : Bicomplex) (h : IsBicomplex b) (top : ℕ) (a : Augmentation) (res
               (ap (λ (v : (set_group b h top a resolved d m).V). v.0) found.3);
         },
         found.1.1,
+        refl,
         (λ i. record { degree = d; terms = (sym sum i).0 })
             ∙ ap (λ v. vector_sum b.ring v (combined (total_map b k n) u)) (sym (set-vector n c found.0.1)),
       )
