@@ -11,5 +11,6 @@ pub mod NextPages
 pub mod NextPageLaws
 pub mod ResolvedRows
 pub mod ResolvedHomology
+pub mod GivenHomology
 pub mod TailExample
 pub mod ResolvedExample

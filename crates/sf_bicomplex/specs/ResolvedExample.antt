@@ -16,6 +16,7 @@ use Rattle.sf_groebner.specs.MinimalGenerators.{matrix_of}
 use Rattle.sf_groebner.specs.Spans.{InSpan}
 use Rattle.sf_blocks.specs.MatrixSums.{zero_matrix}
 use Rattle.sf_bicomplex.specs.Bicomplexes.{Bicomplex, IsBicomplex}
+use Rattle.sf_bicomplex.specs.GivenHomology.{IsGivenHomology}
 use Rattle.sf_bicomplex.specs.ResolvedRows.{Augmentation, ResolvesRows}
 use Rattle.sf_bicomplex.specs.TotalColumns.{total_map}
 
@@ -87,3 +88,9 @@ HasClassThatIsSet = InSpan (total_map resolving_bicomplex (pos 2) (pos 1)) kerne
 -- but x times it is one
 abbrev pub HasMultipleThatBounds : Type 0
 HasMultipleThatBounds = InSpan (total_map resolving_bicomplex (pos 2) (pos 1)) kernel_multiple
+
+-- so R(1)/x is the homology of the total complex in degree 1, by the row (-x, 1)
+abbrev pub GivesQuotient : Type 0
+GivesQuotient =
+    IsGivenHomology resolving_bicomplex (pos 1) (matrix_of (plain 101) (pos 0 ∷ pos 1 ∷ []) (kernel_row ∷ []))
+    (resolved_map (pos 1))

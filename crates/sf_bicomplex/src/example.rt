@@ -1,4 +1,4 @@
-ghost use Rattle.sf_bicomplex.specs.ResolvedExample.{HasClassThatIsSet, HasMultipleThatBounds, IsResolvingBicomplex, ResolvesExample};
+ghost use Rattle.sf_bicomplex.specs.ResolvedExample.{GivesQuotient, HasClassThatIsSet, HasMultipleThatBounds, IsResolvingBicomplex, ResolvesExample};
 ghost use Rattle.sf_bicomplex.specs.TailExample.{HasTailBoundary, HasTailCycle, HasTailDifferential, IsTailBicomplex, RefusesNoTail};
 
 /// A bicomplex whose differential from column 2 to column 0 needs a tail in column 1.
@@ -17,4 +17,5 @@ pub fn row_resolution()
     ensures resolves { ResolvesExample }
     ensures class { HasClassThatIsSet }
     ensures multiple { HasMultipleThatBounds }
+    ensures quotient { GivesQuotient }
 {}

@@ -7,6 +7,7 @@
 mod example;
 mod existence;
 mod filtration;
+mod given;
 mod next;
 mod page;
 mod resolved;
@@ -15,6 +16,7 @@ mod total;
 pub use example::{row_resolution, tail};
 pub use existence::pages_have_matrices;
 pub use filtration::filtrations_have_last_pages;
+pub use given::modules_have_filtrations;
 pub use next::next_pages_have_inverse_matrices;
 pub use page::pages_are_homology;
 pub use resolved::resolved_rows_give_homology;

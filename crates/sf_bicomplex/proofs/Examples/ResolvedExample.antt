@@ -20,10 +20,12 @@ use Rattle.sf_blocks.specs.MatrixSums.{zero_matrix}
 use Rattle.sf_homotopy.specs.Exactness.{IsExactPair}
 use Rattle.sf_homotopy.specs.Homotopies.{IsHomotopy}
 use Rattle.sf_homotopy.proofs.Contracting.Splitting.{exact_by_homotopy}
-use Rattle.sf_bicomplex.specs.ResolvedExample.{HasClassThatIsSet, HasMultipleThatBounds, ResolvesExample, kernel_row, resolved_complex, resolved_degrees, resolved_map, resolved_set, resolving_across, resolving_bicomplex, resolving_degrees, resolving_down}
+use Rattle.sf_bicomplex.specs.ResolvedExample.{GivesQuotient, HasClassThatIsSet, HasMultipleThatBounds, ResolvesExample, kernel_row, resolved_complex, resolved_degrees, resolved_map, resolved_set, resolving_across, resolving_bicomplex, resolving_degrees, resolving_down}
 use Rattle.sf_bicomplex.proofs.Examples.FreeSpots.{plain_ring}
 use Rattle.sf_bicomplex.proofs.Examples.ResolvedSpots.{resolving-bicomplex}
+use Rattle.sf_bicomplex.proofs.Examples.TailPages.{field}
 use Rattle.sf_bicomplex.proofs.Staircases.ResolvedLaws.{boundaries_that_are_set}
+use Rattle.sf_bicomplex.proofs.Staircases.SetHomology.{gives_cokernel}
 
 -- R(0) as the first part of R(0) + R(1), and this to its second part
 abbrev into_first : Matrix
@@ -240,3 +242,7 @@ multiple-that-bounds = record {
   homogeneous = search (arith, ints);
   value = refl;
 }
+
+pub gives-quotient : GivesQuotient
+gives-quotient =
+    gives_cokernel resolving_bicomplex resolving-bicomplex field 1 resolved_complex resolves-example (pos 1) refl

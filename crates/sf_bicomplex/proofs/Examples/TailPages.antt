@@ -25,7 +25,7 @@ use Rattle.sf_bicomplex.proofs.Pages.PageLaws.{differentials_of_cycles, values_a
 use Rattle.sf_bicomplex.proofs.Spans.PageSpans.{IsSpanned-boundaries}
 use Rattle.sf_bicomplex.proofs.Spans.SpannedModules.{IsSubmodule-spanned}
 
-field : IsOverField (plain 101)
+pub field : IsOverField (plain 101)
 unfolding no_factor
 field = record { prime = prime_from 101 9 (omega arith) refl (omega arith); weights = omega arith }
 

@@ -1,12 +1,17 @@
 -- The homology of the complex that is set and that of the total complex, by inverse matrices.
-use Rattle.std.proofs.Common.{◌≡◌, append-nil, ℕ, List, [], ◌++◌, sym, ap, ◌∙◌, subst, refl, arith, ℤ, pos, ◌-ℤ◌, ◌+ℤ◌}
+use Rattle.std.proofs.Common.{◌≡◌, ◌<◌, append-nil, ℕ, List, [], ◌++◌, sym, ap, ◌∙◌, subst, refl, arith, ℤ, pos, ◌-ℤ◌, ◌+ℤ◌}
 use Rattle.std.proofs.lemmas.Int.{ints}
-use Rattle.sf_algebra.specs.Matrices.{Matrix, row_degrees}
+use Rattle.sf_algebra.specs.Matrices.{IsMatrix, Matrix, row_degrees}
 use Rattle.sf_algebra.specs.MatrixOperations.{row_combination, stacked}
 use Rattle.sf_algebra.specs.Multiples.{negative}
-use Rattle.sf_algebra.specs.Rings.{IsOverField}
+use Rattle.sf_algebra.specs.Rings.{IsOverField, Ring}
 use Rattle.sf_algebra.specs.VectorOperations.{row_sum, vector_difference, vector_sum}
-use Rattle.sf_algebra.specs.Vectors.{IsVector, Vector}
+use Rattle.sf_algebra.specs.Vectors.{IsCanonicalRow, IsVector, Vector}
+use Rattle.sf_algebra.proofs.Basics.Lists.{AllByRecursion-weaken}
+use Rattle.sf_algebra.proofs.Vectors.HomogeneousVectors.{IsVector-row_combination}
+use Rattle.sf_groebner.specs.MinimalGenerators.{matrix_of}
+use Rattle.sf_groebner.proofs.MapsOnHomology.EqualModulo.{AreEqualModulo-inside, add-negative_again}
+use Rattle.sf_homotopy.proofs.Exactness.Spans.{span_rows}
 use Rattle.sf_algebra.proofs.Operators.Correspondences.{converse}
 use Rattle.sf_algebra.proofs.Vectors.RowSums.{row_sum-comm}
 use Rattle.sf_algebra.proofs.Vectors.Rows.{IsCanonical-row_combination, row_combination-nil}
@@ -19,6 +24,7 @@ use Rattle.sf_presented.specs.Inverses.{AreInverseModulo}
 use Rattle.sf_presented.proofs.EqualModulo.{AreEqualModulo-sym}
 use Rattle.sf_bicomplex.specs.Bicomplexes.{Bicomplex, IsBicomplex}
 use Rattle.sf_bicomplex.specs.Descriptions.{Describes}
+use Rattle.sf_bicomplex.specs.GivenHomology.{IsGivenHomology, set_rows}
 use Rattle.sf_bicomplex.specs.InducedFiltrations.{IsTotalBoundary, IsTotalHomology}
 use Rattle.sf_bicomplex.specs.ResolvedHomology.{IsSetHomology, SetsClass}
 use Rattle.sf_bicomplex.specs.ResolvedRows.{Augmentation, ResolvesRows}
@@ -33,6 +39,7 @@ use Rattle.sf_bicomplex.proofs.Staircases.FreeTotals.{lowest-no_rows, nothing-sp
 use Rattle.sf_bicomplex.proofs.Staircases.ResolvedLaws.{boundaries_that_are_set, cycles_that_are_set, sets_complex}
 use Rattle.sf_bicomplex.proofs.TotalComplexes.Diagonals.{total_map-rows}
 use Rattle.sf_bicomplex.proofs.TotalComplexes.TotalGroups.{total_ring}
+use Rattle.sf_bicomplex.proofs.TotalComplexes.TotalMaps.{no_generators}
 use Rattle.sf_bicomplex.proofs.TotalComplexes.TotalModules.{lowest-submodule}
 
 module _ (b : Bicomplex) (h : IsBicomplex b) (prime : IsOverField b.ring) (top : ℕ) (a : Augmentation)
@@ -195,6 +202,100 @@ module _ (b : Bicomplex) (h : IsBicomplex b) (prime : IsOverField b.ring) (top :
     bounded = λ c e k. bounded c e (subst (IsTotalBoundary b above n) (sym (set-value c)) k);
     onto = onto;
   }
+
+  -- where the complex ends, all vectors are cycles
+  ends-cycles : a.degrees (n -ℤ pos top -ℤ pos 1) ≡ [] → (c : Vector) → IsVector b.ring (a.degrees (n -ℤ pos top)) c
+      → IsSyzygy (a.map (n -ℤ pos top)) c
+  ends-cycles ends c x =
+      let q = n -ℤ pos top in
+      let m : Matrix = a.map q in
+      let from = resolved.map_from q in
+      let known : Matrix = matrix_of b.ring [] m.rows in
+      let same : m ≡ known = λ i. record {
+        ring = from.ring_of i;
+        target = (resolved.map_target q ∙ ends) i;
+        rows = m.rows;
+      } in
+      let y : IsVector b.ring (row_degrees m) c = subst (λ ds. IsVector b.ring ds c) (sym from.source_of) x in
+      let none : row_combination b.ring m.rows c.terms ≡ [] =
+      no_generators b.ring _
+      (IsVector-row_combination known h.is_ring.modulus (subst IsMatrix same from.matrix) c y) in
+      record {
+        coefficients = subst (λ r. IsVector r (row_degrees m) c) (sym from.ring_of) y;
+        zero = subst (λ r. row_combination r m.rows c.terms ≡ []) (sym from.ring_of) none;
+      }
+
+  pub gives_cokernel : a.degrees (n -ℤ pos top -ℤ pos 1) ≡ []
+      → IsGivenHomology b n (set_rows b top a n) (a.map (n +ℤ pos 1 -ℤ pos top))
+  gives_cokernel ends =
+      let q = n -ℤ pos top in
+      let s : Matrix = a.set q in
+      let from = resolved.set_from q in
+      let N : Vector → Type 0 = IsCycle (total_map b n below) (total_module b below) in
+      let A : Vector → Type 0 = IsTotalBoundary b above n in
+      let module_a = IsSubmodule-spanned b.ring (total_degrees b n) h.is_ring A boundaries in
+      let module_b =
+      IsSubmodule-spanned b.ring (a.degrees q) h.is_ring (InSpan (a.map (n +ℤ pos 1 -ℤ pos top))) arriving in
+      let above_one = subst (λ (r : Ring). 1 < r.modulus) (sym from.ring_of) prime.prime.above_one in
+      let canonical : (c : Vector) → IsCanonicalRow b.ring (row_combination b.ring rows c.terms) =
+      λ c. IsCanonical-row_combination b.ring h.is_ring.modulus rows c.terms in
+      record {
+        ring = refl;
+        target = refl;
+        presented = record {
+          inside =
+              AllByRecursion-weaken (InSpan s) N
+              (λ v e. subst N e.value
+              (sends e.coefficients
+              (ends-cycles ends e.coefficients
+              (subst (λ ds. IsVector b.ring ds e.coefficients) from.source_of
+              (subst (λ r. IsVector r (row_degrees s) e.coefficients) from.ring_of e.homogeneous)))))
+              rows (span_rows s above_one from.matrix);
+          generate = λ z e.
+              let found = onto z e in
+              let c : Vector = found.0 in
+              let put : Vector = combined_rows b.ring rows c in
+              let z_vector = subst (λ ds. IsVector b.ring ds z) (total_map-rows b h n below refl) e.coefficients in
+              let back =
+              AreEqualModulo-sym b.ring h.is_ring (total_degrees b n) A module_a put z (canonical c) z_vector.canonical
+              found.2 in
+              record {
+                first = vector_difference b.ring z put;
+                second = put;
+                in_module = back.difference;
+                in_span = record {
+                  coefficients = c;
+                  homogeneous = subst (λ ds. IsVector b.ring ds c) (sym from.source_of)
+                      (from_coefficients q c found.1.coefficients);
+                  value = refl;
+                };
+                first_degree = refl;
+                second_degree = found.2.degrees;
+                sum = add-negative_again b.ring h.is_ring z.terms put.terms z_vector.canonical (canonical c);
+              };
+          relate = λ c. (
+            λ k.
+                let x = subst (λ ds. IsVector b.ring ds c) from.source_of k.coefficients in
+                bounded c (ends-cycles ends c x) (subst A (sym (set-value c)) k.inside),
+            λ k. record {
+              coefficients = subst (λ ds. IsVector b.ring ds c) (sym from.source_of) (module_b.module_like.vectors c k);
+              inside = subst A (set-value c) (bounds c k);
+            },
+          );
+        };
+      }
+
+  -- where it is exact, so is the total complex
+  pub gives_exact_places : ((c : Vector) → IsSyzygy (a.map (n -ℤ pos top)) c → InSpan (a.map (n +ℤ pos 1 -ℤ pos top)) c)
+      → (z : Vector) → IsCycle (total_map b n (n -ℤ pos 1)) (total_module b (n -ℤ pos 1)) z
+      → IsTotalBoundary b (n +ℤ pos 1) n z
+  gives_exact_places exact z e =
+      let found = onto z e in
+      let A : Vector → Type 0 = IsTotalBoundary b above n in
+      let module_a = IsSubmodule-spanned b.ring (total_degrees b n) h.is_ring A boundaries in
+      let x = subst (λ ds. IsVector b.ring ds z) (total_map-rows b h n below refl) e.coefficients in
+      AreEqualModulo-inside b.ring h.is_ring (total_degrees b n) A module_a.module_like (combined_rows b.ring rows found.0)
+      z x.canonical found.2 (subst A (set-value found.0) (bounds found.0 (exact found.0 found.1)))
 
   module _ (g relations other others : Matrix) (given : IsSetHomology b top a n g relations)
       (total : IsTotalHomology b n other others) where

@@ -27,7 +27,7 @@ use Rattle.sf_bicomplex.proofs.TotalComplexes.TotalSpans.{InSpan-parts, here_rin
 use Rattle.sf_bicomplex.proofs.TotalComplexes.TotalSteps.{behind, blocks-beside, horizontal, length-first, rest, row_at-behind, target-size, vertical, vertical-size, zeros}
 
 -- over no generators there is 0 alone
-no_generators : (ring : Ring) (v : Vector) → IsVector ring [] v → v.terms ≡ []
+pub no_generators : (ring : Ring) (v : Vector) → IsVector ring [] v → v.terms ≡ []
 no_generators ring v h = none v.terms (StandsWithin-vector ring [] v h)
   where
     none : (ts : List (Term Place)) → StandsWithin 0 ts → ts ≡ []

@@ -1,4 +1,4 @@
-use Rattle.sf_bicomplex.proofs.Examples.ResolvedExample.{class-that-is-set, multiple-that-bounds, resolves-example}
+use Rattle.sf_bicomplex.proofs.Examples.ResolvedExample.{class-that-is-set, gives-quotient, multiple-that-bounds, resolves-example}
 use Rattle.sf_bicomplex.proofs.Examples.ResolvedSpots.{resolving-bicomplex}
 use Rattle.sf_bicomplex.proofs.example.row_resolution.Goals as goal
 
@@ -8,4 +8,5 @@ returns c = record {
   resolves = resolves-example;
   class = class-that-is-set;
   multiple = multiple-that-bounds;
+  quotient = gives-quotient;
 }
