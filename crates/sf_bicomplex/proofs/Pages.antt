@@ -2,3 +2,4 @@
 pub mod NearVectors
 pub mod PageVectors
 pub mod PageLaws
+pub mod FirstPages

@@ -3,6 +3,7 @@ pub mod TotalColumns
 pub mod TotalComplexLaws
 pub mod Pages
 pub mod PageLaws
+pub mod FirstPages
 pub mod InducedFiltrations
 pub mod FiltrationLaws
 pub mod Descriptions

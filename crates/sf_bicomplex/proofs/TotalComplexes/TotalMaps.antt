@@ -81,7 +81,7 @@ module _ (b : Bicomplex) (h : IsBicomplex b) (n m : ℤ) (lower : m ≡ n -ℤ p
         (row_combination-zeros b.ring h.is_ring.modulus z.rows
         (row_at-zero_matrix b.ring (total_source (spots b n k)) v.target) vs)
 
-    vertical-sends : (us : List (Term Place)) → InSpan (place b n k) (record { degree = d; terms = us })
+    pub vertical-sends : (us : List (Term Place)) → InSpan (place b n k) (record { degree = d; terms = us })
         → InSpan (place b m k) (record { degree = d; terms = row_combination b.ring v.rows us })
     vertical-sends us e =
         let sent = (h.downward k (n -ℤ pos k)).sends (record { degree = d; terms = us }) e in

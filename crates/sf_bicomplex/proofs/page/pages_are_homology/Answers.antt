@@ -1,3 +1,4 @@
+use Rattle.sf_bicomplex.proofs.Pages.FirstPages.{first_boundaries, first_cycles}
 use Rattle.sf_bicomplex.proofs.Pages.PageLaws.{boundaries_among_cycles, differentials_of_classes, differentials_of_cycles, kernel_as_next_cycles, last_pages, nested_pages, values_as_next_boundaries}
 use Rattle.sf_bicomplex.proofs.page.pages_are_homology.Goals as goal
 
@@ -10,4 +11,6 @@ returns c = record {
   kernel = kernel_as_next_cycles;
   values = values_as_next_boundaries;
   last = last_pages;
+  first_cycles = first_cycles;
+  first_boundaries = first_boundaries;
 }
