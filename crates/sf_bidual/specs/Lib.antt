@@ -1,0 +1,2 @@
+pub mod Horseshoes
+pub mod HorseshoeLaws

@@ -1,0 +1,9 @@
+//! Cartan-Eilenberg resolutions, the bidual bicomplex of a presented module, and the purity filtration.
+//!
+//! The definitions are in `specs/`, the lemmas in `proofs/`. The functions here do nothing: the
+//! contract of each is a law of the definitions.
+#![tactic(auto)]
+
+mod horseshoe;
+
+pub use horseshoe::horseshoes_are_exact;
