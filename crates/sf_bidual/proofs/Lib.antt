@@ -1,1 +1,2 @@
 pub mod Horseshoes
+pub mod Columns

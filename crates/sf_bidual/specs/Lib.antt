@@ -1,2 +1,4 @@
 pub mod Horseshoes
 pub mod HorseshoeLaws
+pub mod CartanEilenberg
+pub mod ColumnLaws

@@ -4,6 +4,8 @@
 //! contract of each is a law of the definitions.
 #![tactic(auto)]
 
+mod column;
 mod horseshoe;
 
+pub use column::columns_are_resolutions;
 pub use horseshoe::horseshoes_are_exact;
