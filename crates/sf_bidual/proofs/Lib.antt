@@ -1,2 +1,3 @@
 pub mod Horseshoes
 pub mod Columns
+pub mod HorizontalMaps

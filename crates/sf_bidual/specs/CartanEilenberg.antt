@@ -1,14 +1,15 @@
 -- The Cartan-Eilenberg resolution of a complex of free modules. (Weibel, "An Introduction to Homological Algebra", 5.7.1;
 -- the choice of generators and lifts is this project's own.)
-use Rattle.std.specs.Prelude.{◌≡◌, ℕ, zero, suc, List, ℤ}
+use Rattle.std.specs.Prelude.{◌≡◌, ℕ, zero, suc, List, ◌++◌, ℤ}
 use Rattle.sf_algebra.specs.Matrices.{Matrix, row_degrees, IsMatrix}
-use Rattle.sf_algebra.specs.MatrixOperations.{matrix_product, IsComposable}
+use Rattle.sf_algebra.specs.MatrixOperations.{identity, matrix_product, stacked, IsComposable}
 use Rattle.sf_algebra.specs.Rings.{Ring}
 use Rattle.sf_algebra.specs.Vectors.{Vector}
 use Rattle.sf_groebner.specs.Presentations.{IsPresentation, IsZero}
 use Rattle.sf_groebner.specs.Resolutions.{IsFirstStep, IsNextStep}
 use Rattle.sf_groebner.specs.Spans.{InSpan, IsSyzygy}
-use Rattle.sf_blocks.specs.MatrixSums.{IsZeroMatrix}
+use Rattle.sf_blocks.specs.MatrixSums.{zero_matrix, IsZeroMatrix}
+use Rattle.sf_blocks.specs.SideBySide.{beside}
 use Rattle.sf_homotopy.specs.Exactness.{from_nothing}
 use Rattle.sf_bidual.specs.Horseshoes.{AreLifts, AreSides, horseshoe}
 
@@ -58,3 +59,23 @@ pub record IsCartanEilenberg (ring : Ring) (maps : ℕ → Matrix) (x : CartanEi
   pub inner_sides : (i : ℕ) → AreSides (x.boundaries i) (x.homology i) (x.inner i)
   pub outer_start : (i : ℕ) → AreLifts (maps i) (x.boundaries (suc i) 0) (x.outer i 0)
   pub outer_sides : (i : ℕ) → AreSides (cycle_steps x i) (x.boundaries (suc i)) (x.outer i)
+
+-- the degrees of the generators of the blocks of the cycles, and of the whole column, at place j
+abbrev pub cycle_degrees : CartanEilenberg → ℕ → ℕ → List ℤ
+cycle_degrees x i j = row_degrees (x.boundaries i j) ++ row_degrees (x.homology i j)
+
+abbrev pub column_degrees : CartanEilenberg → ℕ → ℕ → List ℤ
+column_degrees x i j = cycle_degrees x i j ++ row_degrees (x.boundaries (suc i) j)
+
+-- m with columns of zeros behind it
+abbrev pub widened : Matrix → List ℤ → Matrix
+widened m degrees = beside m (zero_matrix m.ring (row_degrees m) degrees)
+
+-- the horizontal map at place j of column i: the block B(i + 1) goes to the first block of the next column by the
+-- identity, the others go to zero
+abbrev pub horizontal_step : Ring → CartanEilenberg → ℕ → ℕ → Matrix
+horizontal_step ring x i j =
+    stacked (zero_matrix ring (cycle_degrees x i j) (column_degrees x (suc i) j))
+    (widened
+    (widened (identity ring (row_degrees (x.boundaries (suc i) j))) (row_degrees (x.homology (suc i) j)))
+    (row_degrees (x.boundaries (suc (suc i)) j)))

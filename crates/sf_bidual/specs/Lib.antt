@@ -2,3 +2,4 @@ pub mod Horseshoes
 pub mod HorseshoeLaws
 pub mod CartanEilenberg
 pub mod ColumnLaws
+pub mod HorizontalLaws

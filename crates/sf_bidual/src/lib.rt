@@ -5,7 +5,9 @@
 #![tactic(auto)]
 
 mod column;
+mod horizontal;
 mod horseshoe;
 
 pub use column::columns_are_resolutions;
+pub use horizontal::horizontal_maps_commute;
 pub use horseshoe::horseshoes_are_exact;

@@ -98,7 +98,7 @@ module _ (ring : Ring) (prime : IsOverField ring) (arriving delta : Matrix) (to 
         record { coefficients = r.coefficients; inside = (boundaries-onto (combined (h 0) c)).1 r.inside },
   )
 
-  first_horseshoe : IsHorseshoe b h inner
+  pub first_horseshoe : IsHorseshoe b h inner
   first_horseshoe = record {
     above_one = subst (λ (q : Ring). 1 < q.modulus) (sym b-ring) above;
     first_exact = boundaries-exact;
@@ -219,7 +219,7 @@ module _ (ring : Ring) (prime : IsOverField ring) (arriving delta : Matrix) (to 
         },
   )
 
-  second_horseshoe : IsHorseshoe z next outer
+  pub second_horseshoe : IsHorseshoe z next outer
   second_horseshoe = record {
     above_one = subst (λ (q : Ring). 1 < q.modulus) (sym b-ring) above;
     first_exact = cycles-exact;
