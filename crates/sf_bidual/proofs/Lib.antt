@@ -1,3 +1,5 @@
 pub mod Horseshoes
 pub mod Columns
 pub mod HorizontalMaps
+pub mod Rows
+pub mod BidualSpots

@@ -3,3 +3,5 @@ pub mod HorseshoeLaws
 pub mod CartanEilenberg
 pub mod ColumnLaws
 pub mod HorizontalLaws
+pub mod Bidual
+pub mod BidualLaws

@@ -4,10 +4,12 @@
 //! contract of each is a law of the definitions.
 #![tactic(auto)]
 
+mod bidual;
 mod column;
 mod horizontal;
 mod horseshoe;
 
+pub use bidual::bidual_is_a_bicomplex;
 pub use column::columns_are_resolutions;
 pub use horizontal::horizontal_maps_commute;
 pub use horseshoe::horseshoes_are_exact;

@@ -1,0 +1,4 @@
+-- The spots of the bidual bicomplex: maps of free modules, and its laws.
+pub mod FreeMaps
+pub mod Places
+pub mod Bicomplex
