@@ -2,3 +2,5 @@
 pub mod FreeMaps
 pub mod Places
 pub mod Bicomplex
+pub mod Augmentation
+pub mod Homology

@@ -2,4 +2,5 @@ pub mod Horseshoes
 pub mod Columns
 pub mod HorizontalMaps
 pub mod Rows
+pub mod Augmented
 pub mod BidualSpots

@@ -5,3 +5,4 @@ pub mod ColumnLaws
 pub mod HorizontalLaws
 pub mod Bidual
 pub mod BidualLaws
+pub mod AugmentationLaws

@@ -4,11 +4,13 @@
 //! contract of each is a law of the definitions.
 #![tactic(auto)]
 
+mod augmentation;
 mod bidual;
 mod column;
 mod horizontal;
 mod horseshoe;
 
+pub use augmentation::bidual_has_the_homology_of_the_module;
 pub use bidual::bidual_is_a_bicomplex;
 pub use column::columns_are_resolutions;
 pub use horizontal::horizontal_maps_commute;
