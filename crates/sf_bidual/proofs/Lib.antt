@@ -4,3 +4,4 @@ pub mod HorizontalMaps
 pub mod Rows
 pub mod Augmented
 pub mod BidualSpots
+pub mod PurityParts

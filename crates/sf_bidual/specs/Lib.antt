@@ -6,3 +6,5 @@ pub mod HorizontalLaws
 pub mod Bidual
 pub mod BidualLaws
 pub mod AugmentationLaws
+pub mod Purity
+pub mod PurityLaws
