@@ -2,4 +2,5 @@
 pub mod Sums
 pub mod Resolutions
 pub mod OneColumn
+pub mod Arriving
 pub mod Laws

@@ -3,3 +3,4 @@ pub mod Lifts
 pub mod Starts
 pub mod StartLifts
 pub mod Exactness
+pub mod Sides

@@ -5,3 +5,4 @@ pub mod Rows
 pub mod Augmented
 pub mod BidualSpots
 pub mod PurityParts
+pub mod Existing

@@ -4,6 +4,7 @@ pub mod CartanEilenberg
 pub mod ColumnLaws
 pub mod HorizontalLaws
 pub mod Bidual
+pub mod ExistenceLaws
 pub mod BidualLaws
 pub mod AugmentationLaws
 pub mod Purity

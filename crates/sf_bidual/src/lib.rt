@@ -7,6 +7,7 @@
 mod augmentation;
 mod bidual;
 mod column;
+mod existence;
 mod horizontal;
 mod horseshoe;
 mod purity;
@@ -14,6 +15,7 @@ mod purity;
 pub use augmentation::bidual_has_the_homology_of_the_module;
 pub use bidual::bidual_is_a_bicomplex;
 pub use column::columns_are_resolutions;
+pub use existence::cartan_eilenberg_resolutions_exist;
 pub use horizontal::horizontal_maps_commute;
 pub use horseshoe::horseshoes_are_exact;
 pub use purity::modules_have_purity_filtrations;

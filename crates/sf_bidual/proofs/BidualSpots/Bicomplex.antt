@@ -5,25 +5,20 @@ use Rattle.sf_algebra.specs.Matrices.{Matrix, degrees_of, IsMatrix}
 use Rattle.sf_algebra.specs.MatrixOperations.{matrix_product}
 use Rattle.sf_algebra.specs.Rings.{Ring, IsOverField}
 use Rattle.sf_algebra.proofs.GradedMatrices.MatrixProducts.{row_degrees-matrix_product}
-use Rattle.sf_algebra.proofs.GradedMatrices.TransposedProducts.{IsComposable-transposed}
-use Rattle.sf_algebra.proofs.GradedMatrices.Transposes.{IsMatrix-transposed}
 use Rattle.sf_algebra.proofs.Monomials.Weights.{field_ring}
 use Rattle.sf_groebner.specs.Presentations.{IsModuleMap}
-use Rattle.sf_groebner.proofs.Uniqueness.PresentedModules.{IsMatrix-first_step, IsMatrix-next_step}
-use Rattle.sf_presented.proofs.Steps.{spans-next_step}
 use Rattle.sf_blocks.specs.BlockLists.{IsFrom}
 use Rattle.sf_blocks.specs.MatrixSums.{matrix_sum, IsZeroMatrix}
 use Rattle.sf_blocks.proofs.DirectSums.ZeroModulo.{IsZeroModulo-zero}
 use Rattle.sf_blocks.proofs.MatrixSums.SumGroups.{IsMatrix-zero_matrix, row_degrees-zero_matrix}
 use Rattle.sf_blocks.proofs.TwoByTwo.ZeroParts.{IsZeroMatrix-product_first, IsZeroMatrix-product_second, IsZeroMatrix-sum, IsZeroMatrix-zero_matrix}
-use Rattle.sf_homotopy.specs.Exactness.{IsExactPair, from_nothing, to_nothing}
-use Rattle.sf_homotopy.proofs.Exactness.ZeroProducts.{zero_products}
+use Rattle.sf_homotopy.specs.Exactness.{from_nothing, to_nothing}
 use Rattle.sf_bicomplex.specs.Bicomplexes.{IsBicomplex}
 use Rattle.sf_bidual.specs.Bidual.{HasNoStepPast, IsBidualOf, bidual, bidual_across, bidual_degrees, bidual_down, dual_across, dual_degrees, dual_down, dual_maps}
 use Rattle.sf_bidual.specs.CartanEilenberg.{CartanEilenberg, IsCartanEilenberg, IsCochainComplex}
+use Rattle.sf_bidual.proofs.BidualSpots.DualComplexes.{complex_of_steps}
 use Rattle.sf_bidual.proofs.BidualSpots.FreeMaps.{free_map}
 use Rattle.sf_bidual.proofs.BidualSpots.Places.{across, across-matrix, across-ring, across-source, across-target, across-twice, down, down-matrix, down-ring, down-source, down-target, down-twice, signed_square}
-use Rattle.sf_bidual.proofs.Rows.TransposedColumns.{transposed_zero}
 
 module _ (ring : Ring) (maps : ℕ → Matrix) (x : CartanEilenberg) (prime : IsOverField ring)
     (complex : IsCochainComplex ring maps) (h : IsCartanEilenberg ring maps x) (n : ℕ) (ends : HasNoStepPast n x) where
@@ -227,41 +222,11 @@ module _ (ring : Ring) (maps : ℕ → Matrix) (x : CartanEilenberg) (prime : Is
         (bidual_twice_left p q);
   }
 
--- Hom of a resolution into the ring is a complex
+-- with Hom of the resolution of a module into the ring
 module _ (relations : Matrix) (n : ℕ) (steps : ℕ → Matrix) (x : CartanEilenberg) (prime : IsOverField relations.ring)
     (matrix : IsMatrix relations) (d : IsBidualOf relations n steps x) where
-  pub step-rings : (i : ℕ) → (steps i).ring ≡ relations.ring
-  step-rings zero = d.first.ring
-  step-rings (suc i) = (d.next i).ring ∙ step-rings i
-
-  pub IsMatrix-steps : (i : ℕ) → IsMatrix (steps i)
-  IsMatrix-steps zero = IsMatrix-first_step relations (field_ring prime) matrix (steps 0) d.first
-  IsMatrix-steps (suc i) = IsMatrix-next_step (steps i) (steps (suc i)) (d.next i)
-
-  pub exact-steps : (i : ℕ) → IsExactPair (steps i) (steps (suc i))
-  exact-steps i = record {
-    out_matrix = IsMatrix-steps i;
-    into_matrix = IsMatrix-steps (suc i);
-    meet = record {
-      positive = subst (λ (q : Ring). 0 < q.modulus) (sym (step-rings (suc i))) (field_ring prime).modulus;
-      rings = (d.next i).ring;
-      degrees = sym (d.next i).target;
-    };
-    exact = λ v.
-        let same = spans-next_step (steps i) (steps (suc i)) (subst IsOverField (sym (step-rings i)) prime) (d.next i) v in
-        (same.1, same.0);
-  }
-
   pub dual_complex : IsCochainComplex relations.ring (dual_maps steps)
-  dual_complex = record {
-    rings = step-rings;
-    matrices = λ i. IsMatrix-transposed (steps i) (IsMatrix-steps i);
-    meet = λ i. IsComposable-transposed (steps (suc i)) (steps i) (exact-steps i).meet;
-    square = λ i. transposed_zero (steps i) (steps (suc i)) (exact-steps i).meet (IsMatrix-steps (suc i))
-        (IsMatrix-steps i)
-        (zero_products (steps i) (steps (suc i))
-        (subst (λ (q : Ring). 1 < q.modulus) (sym (step-rings i)) prime.prime.above_one) (exact-steps i));
-  }
+  dual_complex = complex_of_steps relations steps prime matrix d.first d.next
 
   pub bidual_bicomplex : IsBicomplex (bidual relations.ring n x)
   bidual_bicomplex = is_bicomplex relations.ring (dual_maps steps) x prime dual_complex d.cartan n d.ends

@@ -22,7 +22,8 @@ use Rattle.sf_bidual.specs.CartanEilenberg.{CartanEilenberg}
 use Rattle.sf_bidual.proofs.Augmented.Augmentations.{IsAugmentedBy}
 use Rattle.sf_bidual.proofs.Augmented.Homology.{cycle-boundary, cycle-set, set-boundary, set-cycle, set-image, set_matrix}
 use Rattle.sf_bidual.proofs.BidualSpots.Augmentation.{augmentations, augmented, from_pair, map_from, no_terms, set_degrees, set_maps}
-use Rattle.sf_bidual.proofs.BidualSpots.Bicomplex.{IsMatrix-steps, bidual_bicomplex, dual_complex, exact-steps}
+use Rattle.sf_bidual.proofs.BidualSpots.Bicomplex.{bidual_bicomplex, dual_complex}
+use Rattle.sf_bidual.proofs.BidualSpots.DualComplexes.{IsMatrix-steps, exact-steps}
 
 module _ (relations : Matrix) (n : ℕ) (steps : ℕ → Matrix) (x : CartanEilenberg) (prime : IsOverField relations.ring)
     (matrix : IsMatrix relations) (d : IsBidualOf relations n steps x) where
@@ -72,7 +73,7 @@ module _ (relations : Matrix) (n : ℕ) (steps : ℕ → Matrix) (x : CartanEile
 
   -- the first map of the dual complex is the first step again
   first_map : dual (pos 1) ≡ steps 0
-  first_map = transposed-transposed (steps 0) (IsMatrix-steps relations n steps x prime matrix d 0)
+  first_map = transposed-transposed (steps 0) (IsMatrix-steps relations steps prime matrix d.first d.next 0)
 
   spans_first : (m : Vector) → InSpan (steps 0) m ↔ InSpan relations m
   spans_first = spans-first_step relations (steps 0) prime matrix d.first
@@ -148,10 +149,10 @@ module _ (relations : Matrix) (n : ℕ) (steps : ℕ → Matrix) (x : CartanEile
       let pair : IsExactPair (dual (pos (suc i))) (dual (pos (suc (suc i)))) =
       subst (λ (p : Matrix × Matrix). IsExactPair p.0 p.1)
       (λ a. (
-        sym (transposed-transposed (steps i) (IsMatrix-steps relations n steps x prime matrix d i)) a,
-        sym (transposed-transposed (steps (suc i)) (IsMatrix-steps relations n steps x prime matrix d (suc i))) a,
+        sym (transposed-transposed (steps i) (IsMatrix-steps relations steps prime matrix d.first d.next i)) a,
+        sym (transposed-transposed (steps (suc i)) (IsMatrix-steps relations steps prime matrix d.first d.next (suc i))) a,
       ))
-      (exact-steps relations n steps x prime matrix d i) in
+      (exact-steps relations steps prime matrix d.first d.next i) in
       let found =
       from_pair relations.ring (dual (pos (suc i))) (dual (pos (suc (suc i)))) here.ring_of next.ring_of pair m
       (subst (λ ds. IsVector relations.ring ds m) (sym here.source_of) v) none in

@@ -1,5 +1,5 @@
 -- The maps of the bidual bicomplex by places of the columns: what they are, and that their squares are zero.
-use Rattle.std.proofs.Common.{◌≡◌, ◌<◌, ℕ, zero, suc, List, [], ◌∷◌, map, refl, sym, ◌∙◌, ap, subst, ℤ, neg_ℤ}
+use Rattle.std.proofs.Common.{◌≡◌, ◌<◌, ℕ, zero, suc, map, refl, sym, ◌∙◌, ap, subst, neg_ℤ}
 use Rattle.sf_algebra.specs.Matrices.{Matrix, row_degrees, IsMatrix}
 use Rattle.sf_algebra.specs.MatrixOperations.{matrix_product, negated, transposed, IsComposable}
 use Rattle.sf_algebra.specs.Rings.{Ring, IsOverField}
@@ -9,11 +9,12 @@ use Rattle.sf_algebra.proofs.GradedMatrices.ProductLaws.{matrix_product-negated,
 use Rattle.sf_algebra.proofs.GradedMatrices.TransposedProducts.{transposed-matrix_product}
 use Rattle.sf_algebra.proofs.GradedMatrices.Transposes.{IsMatrix-transposed, row_degrees-transposed}
 use Rattle.sf_algebra.proofs.Monomials.Weights.{field_ring}
-use Rattle.sf_blocks.specs.MatrixSums.{matrix_sum, zero_matrix, IsZeroMatrix}
+use Rattle.sf_blocks.specs.MatrixSums.{matrix_sum, IsZeroMatrix}
 use Rattle.sf_blocks.proofs.MatrixSums.SumGroups.{matrix_sum-negated}
 use Rattle.sf_blocks.proofs.TwoByTwo.ZeroParts.{IsZeroMatrix-zero_matrix}
 use Rattle.sf_bidual.specs.Bidual.{dual_degrees, signed}
 use Rattle.sf_bidual.specs.CartanEilenberg.{CartanEilenberg, IsCartanEilenberg, IsCochainComplex, column_steps, horizontal_step}
+use Rattle.sf_bidual.proofs.Horseshoes.Lifts.{negated-zero}
 use Rattle.sf_bidual.proofs.Columns.Laws.{column-rings, column-squares, column-target, column_degrees-steps, resolves_terms}
 use Rattle.sf_bidual.proofs.HorizontalMaps.Squares.{IsMatrix-horizontal, commute_differentials, horizontal_squares, row_degrees-horizontal}
 use Rattle.sf_bidual.proofs.Rows.TransposedColumns.{transposed_zero}
@@ -49,19 +50,6 @@ product-signed_second zero a b positive rings h = refl
 product-signed_second (suc j) a b positive rings h =
     matrix_product-negated a (signed j b) positive (rings ∙ sym (signed-ring j b)) (IsMatrix-signed j b h)
     ∙ ap negated (product-signed_second j a b positive rings h)
-
-negated-zero : (m : Matrix) → IsZeroMatrix m → IsZeroMatrix (negated m)
-negated-zero m h =
-    subst (λ n. IsZeroMatrix (negated n)) (sym h)
-    (go (row_degrees m))
-  where
-    go : (ds : List ℤ) → IsZeroMatrix (negated (zero_matrix m.ring ds m.target))
-    go [] = refl
-    go (d ∷ ds) = λ i. record {
-      ring = m.ring;
-      target = m.target;
-      rows = record { degree = d; terms = [] } ∷ (go ds i).rows;
-    }
 
 pub signed-zero : (j : ℕ) (m : Matrix) → IsZeroMatrix m → IsZeroMatrix (signed j m)
 signed-zero zero m h = h

@@ -1,12 +1,27 @@
 -- A matrix of lifts is a matrix, and times what it is lifted over it gives what is lifted.
-use Rattle.std.proofs.Common.{◌≡◌, List, [], ◌∷◌, map, refl, sym, ◌∙◌, ap, subst}
+use Rattle.std.proofs.Common.{◌≡◌, List, [], ◌∷◌, map, refl, sym, ◌∙◌, ap, subst, ℤ}
 use Rattle.std.specs.List.{AllByRecursion}
 use Rattle.sf_algebra.specs.Matrices.{Matrix, row_degrees, degrees_of, IsMatrix}
-use Rattle.sf_algebra.specs.MatrixOperations.{row_combination, matrix_product}
+use Rattle.sf_algebra.specs.MatrixOperations.{negated, row_combination, matrix_product}
 use Rattle.sf_algebra.specs.Rings.{Ring}
 use Rattle.sf_algebra.specs.Vectors.{Vector, IsVector}
 use Rattle.sf_groebner.specs.Spans.{combined}
+use Rattle.sf_blocks.specs.MatrixSums.{zero_matrix, IsZeroMatrix}
 use Rattle.sf_bidual.specs.Horseshoes.{AreLifts, HaveLifts}
+
+-- the negative of zero is zero
+pub negated-zero : (m : Matrix) → IsZeroMatrix m → IsZeroMatrix (negated m)
+negated-zero m h =
+    subst (λ n. IsZeroMatrix (negated n)) (sym h)
+    (go (row_degrees m))
+  where
+    go : (ds : List ℤ) → IsZeroMatrix (negated (zero_matrix m.ring ds m.target))
+    go [] = refl
+    go (d ∷ ds) = λ i. record {
+      ring = m.ring;
+      target = m.target;
+      rows = record { degree = d; terms = [] } ∷ (go ds i).rows;
+    }
 
 module _ (m : Matrix) where
   lift-vectors : (vs cs : List Vector) → HaveLifts m vs cs → AllByRecursion (IsVector m.ring (row_degrees m)) cs

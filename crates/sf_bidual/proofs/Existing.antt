@@ -1,0 +1,4 @@
+-- Existence: canonical resolutions without an end, then Cartan-Eilenberg resolutions.
+pub mod Steps
+pub mod Resolutions
+pub mod CartanEilenberg
