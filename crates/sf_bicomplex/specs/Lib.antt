@@ -13,5 +13,6 @@ pub mod NextPageLaws
 pub mod ResolvedRows
 pub mod ResolvedHomology
 pub mod GivenHomology
+pub mod TensorBicomplexes
 pub mod TailExample
 pub mod ResolvedExample
