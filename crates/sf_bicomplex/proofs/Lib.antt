@@ -5,3 +5,4 @@ pub mod Filtrations
 pub mod Spans
 pub mod Examples
 pub mod Staircases
+pub mod Tensors

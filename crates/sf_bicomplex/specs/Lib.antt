@@ -14,5 +14,6 @@ pub mod ResolvedRows
 pub mod ResolvedHomology
 pub mod GivenHomology
 pub mod TensorBicomplexes
+pub mod TensorLaws
 pub mod TailExample
 pub mod ResolvedExample

@@ -11,6 +11,7 @@ mod given;
 mod next;
 mod page;
 mod resolved;
+mod tensor;
 mod total;
 
 pub use example::{row_resolution, tail};
@@ -20,4 +21,5 @@ pub use given::modules_have_filtrations;
 pub use next::next_pages_have_inverse_matrices;
 pub use page::pages_are_homology;
 pub use resolved::resolved_rows_give_homology;
+pub use tensor::tensors_are_bicomplexes;
 pub use total::total_complexes;

@@ -1,0 +1,4 @@
+-- Tensor products of complexes as bicomplexes.
+pub mod Multiples
+pub mod TensorLaws
+pub mod Factors

@@ -1,0 +1,10 @@
+use Rattle.sf_bicomplex.proofs.Tensors.Factors.{tensors_of_complexes, tensors_with_modules}
+use Rattle.sf_bicomplex.proofs.Tensors.TensorLaws.{tensor_bicomplexes}
+use Rattle.sf_bicomplex.proofs.tensor.tensors_are_bicomplexes.Goals as goal
+
+pub returns : goal.returns
+returns c = record {
+  modules = tensor_bicomplexes;
+  complexes = tensors_of_complexes;
+  module_alone = tensors_with_modules;
+}
