@@ -4,3 +4,6 @@ pub mod TailLaws
 pub mod TailPages
 pub mod ResolvedSpots
 pub mod ResolvedExample
+pub mod TensorSpots
+pub mod PairRelations
+pub mod TensorPages

@@ -17,3 +17,4 @@ pub mod TensorBicomplexes
 pub mod TensorLaws
 pub mod TailExample
 pub mod ResolvedExample
+pub mod TensorExample

@@ -1,4 +1,5 @@
 ghost use Rattle.sf_bicomplex.specs.ResolvedExample.{GivesQuotient, HasClassThatIsSet, HasMultipleThatBounds, IsResolvingBicomplex, ResolvesExample};
+ghost use Rattle.sf_bicomplex.specs.TensorExample.{HasNoResidueDifferential, HasResiduePage, IsKoszulComplex, IsResidueBicomplex};
 ghost use Rattle.sf_bicomplex.specs.TailExample.{HasTailBoundary, HasTailCycle, HasTailDifferential, IsTailBicomplex, RefusesNoTail};
 
 /// A bicomplex whose differential from column 2 to column 0 needs a tail in column 1.
@@ -18,4 +19,13 @@ pub fn row_resolution()
     ensures class { HasClassThatIsSet }
     ensures multiple { HasMultipleThatBounds }
     ensures quotient { GivesQuotient }
+{}
+
+/// The tensor bicomplex of the residue field of two variables with itself: page 2 at one spot, and a differential of it that is
+/// zero through two tails.
+pub fn residue_field()
+    ensures complex { IsKoszulComplex }
+    ensures bicomplex { IsResidueBicomplex }
+    ensures page { HasResiduePage }
+    ensures differential { HasNoResidueDifferential }
 {}

@@ -14,7 +14,7 @@ mod resolved;
 mod tensor;
 mod total;
 
-pub use example::{row_resolution, tail};
+pub use example::{residue_field, row_resolution, tail};
 pub use existence::pages_have_matrices;
 pub use filtration::filtrations_have_last_pages;
 pub use given::modules_have_filtrations;

@@ -1,0 +1,63 @@
+-- The tensor bicomplex of the residue field with itself, over the residues modulo 101 and in x and y: the Koszul complex
+--
+--     R(0) <- (x; y) - R(1) + R(1) <- (y, -x) - R(2)
+--
+-- with itself. In column p and row q stand the generators of place p with those of place q:
+--
+--     row 2    R(2)     R(3)^2    R(4)
+--     row 1    R(1)^2   R(2)^4    R(3)^2
+--     row 0    R(0)     R(1)^2    R(2)
+--
+--     column    0        1         2
+--
+-- (Weibel, "An Introduction to Homological Algebra", sections 2.7 and 4.5; the example is this project's own.)
+use Rattle.std.specs.Prelude.{[], ◌∷◌, pos}
+use Rattle.sf_algebra.specs.Matrices.{Matrix}
+use Rattle.sf_algebra.specs.MatrixOperations.{identity}
+use Rattle.sf_algebra.specs.Rings.{plain}
+use Rattle.sf_algebra.specs.Vectors.{Vector}
+use Rattle.sf_groebner.specs.Examples.{term, vector}
+use Rattle.sf_groebner.specs.ResolutionExamples.{koszul, two_variables}
+use Rattle.sf_bicomplex.specs.Bicomplexes.{Bicomplex, IsBicomplex}
+use Rattle.sf_bicomplex.specs.Pages.{HasDifferential, IsPage}
+use Rattle.sf_bicomplex.specs.TensorBicomplexes.{FreeComplex, IsFreeComplex, complex_of, tensor_of_complexes}
+
+abbrev pub koszul_complex : FreeComplex
+koszul_complex = complex_of (plain 101) (pos 0 ∷ []) (two_variables ∷ koszul ∷ [])
+
+abbrev pub residue_bicomplex : Bicomplex
+residue_bicomplex = tensor_of_complexes koszul_complex koszul_complex
+
+abbrev pub IsKoszulComplex : Type 0
+IsKoszulComplex = IsFreeComplex koszul_complex
+
+abbrev pub IsResidueBicomplex : Type 0
+IsResidueBicomplex = IsBicomplex residue_bicomplex
+
+-- two generators of degree 1, and x and y times each
+abbrev pub pair_generators : Matrix
+pair_generators = identity (plain 101) (pos 1 ∷ pos 1 ∷ [])
+
+abbrev pub pair_relations : Matrix
+pair_relations = record {
+  ring = plain 101;
+  target = pos 1 ∷ pos 1 ∷ [];
+  rows = vector 2 (term 1 0 (1 ∷ []) ∷ [])
+      ∷ vector 2 (term 1 0 (0 ∷ 1 ∷ []) ∷ [])
+      ∷ vector 2 (term 1 1 (1 ∷ []) ∷ [])
+      ∷ vector 2 (term 1 1 (0 ∷ 1 ∷ []) ∷ [])
+      ∷ [];
+}
+
+-- page 2 in column 1 and row 0
+abbrev pub HasResiduePage : Type 0
+HasResiduePage = IsPage residue_bicomplex 2 (pos 1) 1 pair_generators pair_relations
+
+-- the generator in column 2 and row 0
+abbrev pub highest_generator : Vector
+highest_generator = vector 2 (term 1 0 [] ∷ [])
+
+-- the differential of page 2 sends it to 0, in column 0 and row 1
+abbrev pub HasNoResidueDifferential : Type 0
+HasNoResidueDifferential =
+    HasDifferential residue_bicomplex 2 (pos 2) (pos 1) 0 highest_generator (vector 2 [])
