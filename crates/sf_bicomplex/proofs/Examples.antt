@@ -7,3 +7,4 @@ pub mod ResolvedExample
 pub mod TensorSpots
 pub mod PairRelations
 pub mod TensorPages
+pub mod TensorNext

@@ -19,6 +19,9 @@ use Rattle.sf_algebra.specs.Vectors.{Vector}
 use Rattle.sf_groebner.specs.Examples.{term, vector}
 use Rattle.sf_groebner.specs.ResolutionExamples.{koszul, two_variables}
 use Rattle.sf_bicomplex.specs.Bicomplexes.{Bicomplex, IsBicomplex}
+use Rattle.sf_bicomplex.specs.Descriptions.{Describes}
+use Rattle.sf_bicomplex.specs.InducedFiltrations.{HasLeadingColumn}
+use Rattle.sf_bicomplex.specs.NextPages.{HasPageCoordinates, IsPageHomology}
 use Rattle.sf_bicomplex.specs.Pages.{HasDifferential, IsPage}
 use Rattle.sf_bicomplex.specs.TensorBicomplexes.{FreeComplex, IsFreeComplex, complex_of, tensor_of_complexes}
 
@@ -61,3 +64,36 @@ highest_generator = vector 2 (term 1 0 [] ∷ [])
 abbrev pub HasNoResidueDifferential : Type 0
 HasNoResidueDifferential =
     HasDifferential residue_bicomplex 2 (pos 2) (pos 1) 0 highest_generator (vector 2 [])
+
+-- page 3 is the same there
+abbrev pub HasLastResiduePage : Type 0
+HasLastResiduePage = IsPage residue_bicomplex 3 (pos 1) 1 pair_generators pair_relations
+
+-- so is the homology of page 2, in its own coordinates
+abbrev pub HasResiduePageHomology : Type 0
+HasResiduePageHomology = IsPageHomology residue_bicomplex 2 (pos 1) 1 pair_generators pair_generators pair_relations
+
+-- the two matrices between them are the identity
+abbrev pub HasIdentityToHomology : Type 0
+HasIdentityToHomology =
+    Describes (HasPageCoordinates residue_bicomplex 2 (pos 1) 1 pair_generators) pair_generators pair_relations
+    pair_generators pair_generators
+
+abbrev pub HasIdentityFromHomology : Type 0
+HasIdentityFromHomology =
+    Describes (λ c v. HasPageCoordinates residue_bicomplex 2 (pos 1) 1 pair_generators v c) pair_generators pair_relations
+    pair_generators pair_generators
+
+-- in total degree 1: the generators of column 1, less those of column 0
+abbrev pub paired_cycles : Matrix
+paired_cycles = record {
+  ring = plain 101;
+  target = pos 1 ∷ pos 1 ∷ pos 1 ∷ pos 1 ∷ [];
+  rows = vector 1 (term 1 0 [] ∷ term 100 2 [] ∷ []) ∷ vector 1 (term 1 1 [] ∷ term 100 3 [] ∷ []) ∷ [];
+}
+
+-- the leading columns in column 1 of the classes of these are the generators of the page
+abbrev pub HasResidueLeadingColumns : Type 0
+HasResidueLeadingColumns =
+    Describes (HasLeadingColumn residue_bicomplex (pos 2) (pos 1) (pos 0) paired_cycles 1) pair_generators pair_relations
+    pair_generators pair_generators

@@ -1,5 +1,5 @@
 ghost use Rattle.sf_bicomplex.specs.ResolvedExample.{GivesQuotient, HasClassThatIsSet, HasMultipleThatBounds, IsResolvingBicomplex, ResolvesExample};
-ghost use Rattle.sf_bicomplex.specs.TensorExample.{HasNoResidueDifferential, HasResiduePage, IsKoszulComplex, IsResidueBicomplex};
+ghost use Rattle.sf_bicomplex.specs.TensorExample.{HasIdentityFromHomology, HasIdentityToHomology, HasLastResiduePage, HasNoResidueDifferential, HasResidueLeadingColumns, HasResiduePage, HasResiduePageHomology, IsKoszulComplex, IsResidueBicomplex};
 ghost use Rattle.sf_bicomplex.specs.TailExample.{HasTailBoundary, HasTailCycle, HasTailDifferential, IsTailBicomplex, RefusesNoTail};
 
 /// A bicomplex whose differential from column 2 to column 0 needs a tail in column 1.
@@ -21,11 +21,17 @@ pub fn row_resolution()
     ensures quotient { GivesQuotient }
 {}
 
-/// The tensor bicomplex of the residue field of two variables with itself: page 2 at one spot, and a differential of it that is
+/// The tensor bicomplex of the residue field of two variables with itself: page 2 at one spot, which is page 3 and the homology
+/// of page 2 by the identity, what its generators lead in total homology, and a differential of page 2 that is
 /// zero through two tails.
 pub fn residue_field()
     ensures complex { IsKoszulComplex }
     ensures bicomplex { IsResidueBicomplex }
     ensures page { HasResiduePage }
     ensures differential { HasNoResidueDifferential }
+    ensures last_page { HasLastResiduePage }
+    ensures homology { HasResiduePageHomology }
+    ensures to_homology { HasIdentityToHomology }
+    ensures from_homology { HasIdentityFromHomology }
+    ensures leading { HasResidueLeadingColumns }
 {}

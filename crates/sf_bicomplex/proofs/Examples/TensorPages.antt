@@ -40,10 +40,10 @@ use Rattle.sf_bicomplex.proofs.Spans.PageSpans.{IsSpanned-boundaries, IsSpanned-
 use Rattle.sf_bicomplex.proofs.Spans.SpannedModules.{IsSubmodule-spanned}
 use Rattle.sf_bicomplex.proofs.TotalComplexes.TotalLaws.{columns_in_places, columns_of_images}
 
-abbrev Z : Vector → Type 0
+abbrev pub Z : Vector → Type 0
 Z = IsCycleOfPage residue_bicomplex 2 (pos 1) (pos 0) 1
 
-abbrev B : Vector → Type 0
+abbrev pub B : Vector → Type 0
 B = IsBoundaryOfPage residue_bicomplex 2 (pos 2) (pos 1) 1
 
 pub cycles : IsSubmodule (plain 101) (pos 1 ∷ pos 1 ∷ []) Z
@@ -241,7 +241,7 @@ second_needed h =
     (zero-sum (unit_vector (pos 1) 0 ∷ []) (unit_vector (pos 1) 1) refl h)
 
 -- a relation of the generators is a vector of the span
-generators_combined : (c : Vector) → IsVector (plain 101) (pos 1 ∷ pos 1 ∷ []) c → combined pair_generators c ≡ c
+pub generators_combined : (c : Vector) → IsVector (plain 101) (pos 1 ∷ pos 1 ∷ []) c → combined pair_generators c ≡ c
 generators_combined c h =
     λ i. record {
       degree = c.degree;
