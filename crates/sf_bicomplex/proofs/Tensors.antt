@@ -2,3 +2,4 @@
 pub mod Multiples
 pub mod TensorLaws
 pub mod Factors
+pub mod Lists

@@ -104,6 +104,15 @@ complex_of ring first ms = record {
   map = map_from ring first ms;
 }
 
+-- each matrix goes to the generators from which the one before goes, and two in a row are zero
+abbrev pub IsZeroAfter : Matrix → List Matrix → Type 0
+IsZeroAfter m [] = Unit {0}
+IsZeroAfter m (n ∷ ns) = IsZeroMatrix (matrix_product n m)
+
+abbrev pub AreComplex : Ring → List ℤ → List Matrix → Type 0
+AreComplex ring first [] = Unit {0}
+AreComplex ring first (m ∷ ms) = IsTo ring first m × IsZeroAfter m ms × AreComplex ring (row_degrees m) ms
+
 -- the tensor bicomplex of two complexes of free modules, and of one with a presented module
 abbrev pub tensor_of_complexes : FreeComplex → FreeComplex → Bicomplex
 tensor_of_complexes c d = tensor_bicomplex c (as_modules d)
