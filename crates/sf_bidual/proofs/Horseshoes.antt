@@ -1,6 +1,5 @@
 -- Horseshoes: matrices of lifts, exactness at the first place and at the others.
 pub mod Lifts
 pub mod Starts
-pub mod StartLifts
 pub mod Exactness
 pub mod Sides

@@ -29,7 +29,7 @@ use Rattle.sf_homotopy.proofs.Contracting.Sums.{AreParallel-negated, sum-differe
 use Rattle.sf_homotopy.proofs.Exactness.Lifts.{span_products}
 use Rattle.sf_homotopy.proofs.Exactness.Spans.{coefficients_of}
 use Rattle.sf_homotopy.proofs.Exactness.ZeroProducts.{syzygies_of_span, zero_products}
-use Rattle.sf_bidual.proofs.Horseshoes.StartLifts.{start_lift}
+use Rattle.sf_homotopy.proofs.Triangles.PairLifts.{lift_pair}
 
 -- where two matrices add up to 0, one is the negative of the other
 pub negative_of_zero_sum : (a b : Matrix) → 0 < a.ring.modulus → AreParallel a b → IsMatrix a → IsMatrix b
@@ -231,7 +231,7 @@ module _ (a s c m d : Matrix) (above : 1 < a.ring.modulus) (first : IsExactPair 
 
     span_of_syzygy : InSpan into v
     span_of_syzygy =
-        let e = start_lift a s c m d (sym start.target_of) k mm md first below u w right u-matrix together u-composable
+        let e = lift_pair a s c m d (sym start.target_of) k mm md first below u w right u-matrix together u-composable
         zeros-sum (coefficients_of d w.rows in_last).1
         (record { positive = d-s.positive; rings = refl; degrees = refl }) right-value in
         (subst (λ (x : Matrix). AllByRecursion (InSpan into) x.rows) (e.3 ∙ cut) (span_products e.0 into e.2 e.1)).0

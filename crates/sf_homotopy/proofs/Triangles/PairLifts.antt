@@ -1,5 +1,5 @@
--- Matrices side by side that a stack sends to 0 come by a triangle, where the right one does by the block on its diagonal:
--- what is left of the left one is lifted.
+-- Matrices side by side whose products with two matrices add up to 0 come by a triangle, where the right one comes by the
+-- block on its diagonal: what is left of the left one is lifted.
 use Rattle.std.proofs.Common.{◌≡◌, ◌<◌, [], ◌++◌, refl, sym, ◌∙◌, ap, subst}
 use Rattle.sf_algebra.specs.Matrices.{Matrix, row_degrees, IsMatrix}
 use Rattle.sf_algebra.specs.MatrixOperations.{matrix_product, negated, IsComposable}
@@ -16,7 +16,13 @@ use Rattle.sf_blocks.proofs.TwoByTwo.ZeroParts.{IsZeroMatrix-product_second, mat
 use Rattle.sf_homotopy.specs.Exactness.{IsExactPair}
 use Rattle.sf_homotopy.proofs.Exactness.Lifts.{lift, lift-into, lift-matrix, lift-value}
 use Rattle.sf_homotopy.proofs.Contracting.Sums.{AreParallel-negated, sum-difference}
-use Rattle.sf_homotopy.proofs.Triangles.TriangleLifts.{no_rows, AreTriangle-no_rows}
+
+-- no rows
+abbrev pub no_rows : Matrix → Matrix
+no_rows m = zero_matrix m.ring [] m.target
+
+pub AreTriangle-no_rows : (u w : Matrix) → AreBeside u w → AreTriangle (no_rows u) u w
+AreTriangle-no_rows u w h = record { lower = h; rings = refl; targets = refl }
 
 module _ (a l c m d : Matrix) (targets : a.target ≡ l.target) (k : AreTriangle c m d) (mm : IsMatrix m)
     (md : IsMatrix d) (first : IsExactPair a c) (below : IsZeroMatrix (matrix_sum (matrix_product m a) (matrix_product d l)))
@@ -159,9 +165,9 @@ module _ (a l c m d : Matrix) (targets : a.target ≡ l.target) (k : AreTriangle
       (IsMatrix-zero_matrix left.ring [] left.target) left-matrix right-matrix first.into_matrix mm md
       ∙ (λ i. triangle (corner i) (sum i) (right-value i))
 
-  pub start_lift : (e : Matrix) × IsMatrix e × IsComposable e (triangle c m d)
+  pub lift_pair : (e : Matrix) × IsMatrix e × IsComposable e (triangle c m d)
       × (matrix_product e (triangle c m d) ≡ beside u w)
-  start_lift = (
+  lift_pair = (
     both,
     both-matrix,
     record {
