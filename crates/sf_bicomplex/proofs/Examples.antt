@@ -8,3 +8,4 @@ pub mod TensorSpots
 pub mod PairRelations
 pub mod TensorPages
 pub mod TensorNext
+pub mod TensorTotal

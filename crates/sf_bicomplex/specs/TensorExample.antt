@@ -20,6 +20,7 @@ use Rattle.sf_groebner.specs.Examples.{term, vector}
 use Rattle.sf_groebner.specs.ResolutionExamples.{koszul, two_variables}
 use Rattle.sf_bicomplex.specs.Bicomplexes.{Bicomplex, IsBicomplex}
 use Rattle.sf_bicomplex.specs.Descriptions.{Describes}
+use Rattle.sf_bicomplex.specs.GivenHomology.{IsGivenHomology}
 use Rattle.sf_bicomplex.specs.InducedFiltrations.{HasLeadingColumn}
 use Rattle.sf_bicomplex.specs.NextPages.{HasPageCoordinates, IsPageHomology}
 use Rattle.sf_bicomplex.specs.Pages.{HasDifferential, IsPage}
@@ -97,3 +98,7 @@ abbrev pub HasResidueLeadingColumns : Type 0
 HasResidueLeadingColumns =
     Describes (HasLeadingColumn residue_bicomplex (pos 2) (pos 1) (pos 0) paired_cycles 1) pair_generators pair_relations
     pair_generators pair_generators
+
+-- and these are the generators of the homology of the total complex in that degree, with the relations x and y each
+abbrev pub HasResidueHomology : Type 0
+HasResidueHomology = IsGivenHomology residue_bicomplex (pos 1) paired_cycles pair_relations

@@ -57,7 +57,7 @@ boundaries =
     (IsSpanned-boundaries residue_bicomplex residue-bicomplex field (pos 2) (pos 1) refl 2 1 (omega arith))
 
 -- a submodule has the span of its vectors
-inside-span : (rows : List Vector) (N : Vector → Type 0) → IsSubmodule (plain 101) (pos 1 ∷ pos 1 ∷ []) N
+pub inside-span : (rows : List Vector) (N : Vector → Type 0) → IsSubmodule (plain 101) (pos 1 ∷ pos 1 ∷ []) N
     → AllByRecursion N rows
     → (v : Vector) → InSpan (record { ring = plain 101; target = pos 1 ∷ pos 1 ∷ []; rows = rows }) v → N v
 inside-span rows N sub all v h =
