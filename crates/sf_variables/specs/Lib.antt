@@ -1,4 +1,5 @@
 pub mod Variables
+pub mod Columns
 pub mod MonomialLaws
 pub mod RowLaws
 pub mod MatrixLaws
