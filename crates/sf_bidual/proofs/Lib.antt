@@ -6,3 +6,4 @@ pub mod Augmented
 pub mod BidualSpots
 pub mod PurityParts
 pub mod Existing
+pub mod Bounded

@@ -3,12 +3,13 @@
 -- Generalized Morphisms"; the choice of the resolutions is this project's own.)
 use Rattle.std.specs.Prelude.{◌≡◌, ◌-◌, ℕ, zero, suc, List, [], map, ℤ, pos, negsuc, neg_ℤ}
 use Rattle.sf_algebra.specs.Matrices.{Matrix}
-use Rattle.sf_algebra.specs.MatrixOperations.{negated, transposed}
+use Rattle.sf_algebra.specs.MatrixOperations.{transposed}
 use Rattle.sf_algebra.specs.Rings.{Ring}
 use Rattle.sf_groebner.specs.MinimalGenerators.{matrix_of}
 use Rattle.sf_groebner.specs.Resolutions.{IsFirstStep, IsNextStep}
 use Rattle.sf_homotopy.specs.Exactness.{from_nothing, to_nothing}
 use Rattle.sf_bicomplex.specs.Bicomplexes.{Bicomplex}
+use Rattle.sf_bicomplex.specs.TensorBicomplexes.{signed}
 use Rattle.sf_bicomplex.specs.TotalColumns.{total_degrees}
 use Rattle.sf_bidual.specs.CartanEilenberg.{CartanEilenberg, IsCartanEilenberg, column_degrees, column_steps, horizontal_step}
 
@@ -26,10 +27,6 @@ dual_degrees x i (suc j) = map neg_ℤ (column_degrees x i j)
 abbrev pub dual_across : Ring → CartanEilenberg → ℕ → List ℤ → ℕ → Matrix
 dual_across ring x i degrees zero = from_nothing ring degrees
 dual_across ring x i degrees (suc j) = transposed (column_steps x i (suc j))
-
-abbrev pub signed : ℕ → Matrix → Matrix
-signed zero m = m
-signed (suc j) m = negated (signed j m)
 
 abbrev pub dual_down : Ring → CartanEilenberg → ℕ → ℕ → Matrix
 dual_down ring x i zero = from_nothing ring []

@@ -5,6 +5,7 @@ pub mod ColumnLaws
 pub mod HorizontalLaws
 pub mod Bidual
 pub mod ExistenceLaws
+pub mod BoundLaws
 pub mod BidualLaws
 pub mod AugmentationLaws
 pub mod Purity

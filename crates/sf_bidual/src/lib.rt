@@ -6,6 +6,7 @@
 
 mod augmentation;
 mod bidual;
+mod bound;
 mod column;
 mod existence;
 mod horizontal;
@@ -14,6 +15,7 @@ mod purity;
 
 pub use augmentation::bidual_has_the_homology_of_the_module;
 pub use bidual::bidual_is_a_bicomplex;
+pub use bound::purity_filtrations_exist;
 pub use column::columns_are_resolutions;
 pub use existence::cartan_eilenberg_resolutions_exist;
 pub use horizontal::horizontal_maps_commute;

@@ -82,7 +82,7 @@ IsMatrix-signed (suc p) m h = IsMatrix-negated (signed p m) (IsMatrix-signed p m
 above_zero : (ring other : Ring) → ring ≡ other → 0 < other.modulus → 0 < ring.modulus
 above_zero ring other same h = subst (λ (q : Ring). 0 < q.modulus) (sym same) h
 
-signed-first : (p : ℕ) (a b : Matrix) → 0 < a.ring.modulus → IsMatrix a
+pub signed-first : (p : ℕ) (a b : Matrix) → 0 < a.ring.modulus → IsMatrix a
     → matrix_product (signed p a) b ≡ signed p (matrix_product a b)
 signed-first zero a b positive h = refl
 signed-first (suc p) a b positive h =
@@ -90,7 +90,7 @@ signed-first (suc p) a b positive h =
     (IsMatrix-signed p a h)
     ∙ ap negated (signed-first p a b positive h)
 
-signed-second : (p : ℕ) (a b : Matrix) → 0 < a.ring.modulus → a.ring ≡ b.ring → IsMatrix b
+pub signed-second : (p : ℕ) (a b : Matrix) → 0 < a.ring.modulus → a.ring ≡ b.ring → IsMatrix b
     → matrix_product a (signed p b) ≡ signed p (matrix_product a b)
 signed-second zero a b positive rings h = refl
 signed-second (suc p) a b positive rings h =

@@ -4,15 +4,15 @@ use Rattle.sf_algebra.specs.Matrices.{Matrix, row_degrees, IsMatrix}
 use Rattle.sf_algebra.specs.MatrixOperations.{matrix_product, negated, transposed, IsComposable}
 use Rattle.sf_algebra.specs.Rings.{Ring, IsOverField}
 use Rattle.sf_algebra.proofs.GradedMatrices.MatrixProducts.{IsMatrix-matrix_product}
-use Rattle.sf_algebra.proofs.GradedMatrices.NegatedMatrices.{IsMatrix-negated, row_degrees-negated}
-use Rattle.sf_algebra.proofs.GradedMatrices.ProductLaws.{matrix_product-negated, matrix_product-negated_first}
 use Rattle.sf_algebra.proofs.GradedMatrices.TransposedProducts.{transposed-matrix_product}
 use Rattle.sf_algebra.proofs.GradedMatrices.Transposes.{IsMatrix-transposed, row_degrees-transposed}
 use Rattle.sf_algebra.proofs.Monomials.Weights.{field_ring}
 use Rattle.sf_blocks.specs.MatrixSums.{matrix_sum, IsZeroMatrix}
 use Rattle.sf_blocks.proofs.MatrixSums.SumGroups.{matrix_sum-negated}
 use Rattle.sf_blocks.proofs.TwoByTwo.ZeroParts.{IsZeroMatrix-zero_matrix}
-use Rattle.sf_bidual.specs.Bidual.{dual_degrees, signed}
+use Rattle.sf_bicomplex.specs.TensorBicomplexes.{signed}
+use Rattle.sf_bicomplex.proofs.Tensors.Multiples.{IsMatrix-signed, ring-signed, row_degrees-signed, signed-first, signed-second, target-signed}
+use Rattle.sf_bidual.specs.Bidual.{dual_degrees}
 use Rattle.sf_bidual.specs.CartanEilenberg.{CartanEilenberg, IsCartanEilenberg, IsCochainComplex, column_steps, horizontal_step}
 use Rattle.sf_bidual.proofs.Horseshoes.Lifts.{negated-zero}
 use Rattle.sf_bidual.proofs.Columns.Laws.{column-rings, column-squares, column-target, column_degrees-steps, resolves_terms}
@@ -20,37 +20,6 @@ use Rattle.sf_bidual.proofs.HorizontalMaps.Squares.{IsMatrix-horizontal, commute
 use Rattle.sf_bidual.proofs.Rows.TransposedColumns.{transposed_zero}
 
 -- signs
-pub signed-ring : (j : ℕ) (m : Matrix) → (signed j m).ring ≡ m.ring
-signed-ring zero m = refl
-signed-ring (suc j) m = signed-ring j m
-
-pub signed-target : (j : ℕ) (m : Matrix) → (signed j m).target ≡ m.target
-signed-target zero m = refl
-signed-target (suc j) m = signed-target j m
-
-pub IsMatrix-signed : (j : ℕ) (m : Matrix) → IsMatrix m → IsMatrix (signed j m)
-IsMatrix-signed zero m h = h
-IsMatrix-signed (suc j) m h = IsMatrix-negated (signed j m) (IsMatrix-signed j m h)
-
-pub row_degrees-signed : (j : ℕ) (m : Matrix) → row_degrees (signed j m) ≡ row_degrees m
-row_degrees-signed zero m = refl
-row_degrees-signed (suc j) m = row_degrees-negated (signed j m) ∙ row_degrees-signed j m
-
-pub product-signed_first : (j : ℕ) (a b : Matrix) → 0 < a.ring.modulus → IsMatrix a
-    → matrix_product (signed j a) b ≡ signed j (matrix_product a b)
-product-signed_first zero a b positive h = refl
-product-signed_first (suc j) a b positive h =
-    matrix_product-negated_first (signed j a) b
-    (subst (λ (q : Ring). 0 < q.modulus) (sym (signed-ring j a)) positive) (IsMatrix-signed j a h)
-    ∙ ap negated (product-signed_first j a b positive h)
-
-pub product-signed_second : (j : ℕ) (a b : Matrix) → 0 < a.ring.modulus → a.ring ≡ b.ring → IsMatrix b
-    → matrix_product a (signed j b) ≡ signed j (matrix_product a b)
-product-signed_second zero a b positive rings h = refl
-product-signed_second (suc j) a b positive rings h =
-    matrix_product-negated a (signed j b) positive (rings ∙ sym (signed-ring j b)) (IsMatrix-signed j b h)
-    ∙ ap negated (product-signed_second j a b positive rings h)
-
 pub signed-zero : (j : ℕ) (m : Matrix) → IsZeroMatrix m → IsZeroMatrix (signed j m)
 signed-zero zero m h = h
 signed-zero (suc j) m h = negated-zero (signed j m) (signed-zero j m h)
@@ -106,13 +75,13 @@ module _ (ring : Ring) (maps : ℕ → Matrix) (x : CartanEilenberg) (prime : Is
     down-matrix = IsMatrix-signed j plain_down plain_down-matrix
 
     pub down-ring : down.ring ≡ ring
-    down-ring = signed-ring j plain_down
+    down-ring = ring-signed j plain_down
 
     pub down-source : row_degrees down ≡ dual_degrees x (suc i) (suc j)
     down-source = row_degrees-signed j plain_down ∙ plain_down-source
 
     pub down-target : down.target ≡ dual_degrees x i (suc j)
-    down-target = signed-target j plain_down ∙ plain_down-target
+    down-target = target-signed j plain_down ∙ plain_down-target
 
   pub across-twice : (i j : ℕ) → IsZeroMatrix (matrix_product (across i j) (across i (suc j)))
   across-twice i j =
@@ -134,8 +103,8 @@ module _ (ring : Ring) (maps : ℕ → Matrix) (x : CartanEilenberg) (prime : Is
       (IsMatrix-horizontal ring maps x prime complex h i j) (IsMatrix-horizontal ring maps x prime complex h (suc i) j)
       (horizontal_squares ring maps x prime complex h i j) in
       subst IsZeroMatrix
-      (sym (product-signed_first j (plain_down (suc i) j) (down i j) positive (plain_down-matrix (suc i) j)
-      ∙ ap (signed j) (product-signed_second j (plain_down (suc i) j) (plain_down i j) positive refl
+      (sym (signed-first j (plain_down (suc i) j) (down i j) positive (plain_down-matrix (suc i) j)
+      ∙ ap (signed j) (signed-second j (plain_down (suc i) j) (plain_down i j) positive refl
       (plain_down-matrix i j))))
       (signed-zero j (signed j (matrix_product (plain_down (suc i) j) (plain_down i j)))
       (signed-zero j (matrix_product (plain_down (suc i) j) (plain_down i j)) zero_plain))
@@ -169,9 +138,9 @@ module _ (ring : Ring) (maps : ℕ → Matrix) (x : CartanEilenberg) (prime : Is
       let positive_across : 0 < (across (suc i) j).ring.modulus =
       subst (λ (q : Ring). 0 < q.modulus) (sym (across-ring (suc i) j)) positive in
       let first : matrix_product (down i j) (across i j) ≡ signed j one =
-      product-signed_first j (plain_down i j) (across i j) positive (plain_down-matrix i j) in
+      signed-first j (plain_down i j) (across i j) positive (plain_down-matrix i j) in
       let second : matrix_product (across (suc i) j) (down i (suc j)) ≡ negated (signed j one) =
-      product-signed_second (suc j) (across (suc i) j) (plain_down i (suc j)) positive_across (across-ring (suc i) j)
+      signed-second (suc j) (across (suc i) j) (plain_down i (suc j)) positive_across (across-ring (suc i) j)
       (plain_down-matrix i (suc j))
       ∙ ap (λ m. negated (signed j m)) (sym (plain_square i j)) in
       let one-matrix : IsMatrix one = IsMatrix-matrix_product (plain_down i j) (across i j) (record {
@@ -181,7 +150,7 @@ module _ (ring : Ring) (maps : ℕ → Matrix) (x : CartanEilenberg) (prime : Is
       }) (plain_down-matrix i j) (across-matrix i j) in
       let whole = signed j one in
       let positive_whole : 0 < whole.ring.modulus =
-      subst (λ (q : Ring). 0 < q.modulus) (sym (signed-ring j one)) positive in
+      subst (λ (q : Ring). 0 < q.modulus) (sym (ring-signed j one)) positive in
       subst IsZeroMatrix (λ k. matrix_sum (sym first k) (sym second k))
       (subst IsZeroMatrix (sym (matrix_sum-negated whole positive_whole (IsMatrix-signed j one one-matrix)))
       (IsZeroMatrix-zero_matrix whole.ring (row_degrees whole) whole.target))
