@@ -9,3 +9,4 @@ pub mod PairRelations
 pub mod TensorPages
 pub mod TensorNext
 pub mod TensorTotal
+pub mod TensorParts

@@ -12,3 +12,4 @@ pub mod PartExistence
 pub mod NextMaps
 pub mod NextExistence
 pub mod IsomorphicClasses
+pub mod NoClasses

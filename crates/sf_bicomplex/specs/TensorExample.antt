@@ -17,11 +17,12 @@ use Rattle.sf_algebra.specs.MatrixOperations.{identity}
 use Rattle.sf_algebra.specs.Rings.{plain}
 use Rattle.sf_algebra.specs.Vectors.{Vector}
 use Rattle.sf_groebner.specs.Examples.{term, vector}
+use Rattle.sf_groebner.specs.MinimalGenerators.{matrix_of}
 use Rattle.sf_groebner.specs.ResolutionExamples.{koszul, two_variables}
 use Rattle.sf_bicomplex.specs.Bicomplexes.{Bicomplex, IsBicomplex}
 use Rattle.sf_bicomplex.specs.Descriptions.{Describes}
 use Rattle.sf_bicomplex.specs.GivenHomology.{IsGivenHomology}
-use Rattle.sf_bicomplex.specs.InducedFiltrations.{HasLeadingColumn}
+use Rattle.sf_bicomplex.specs.InducedFiltrations.{HasLeadingColumn, IsPartOfHomology}
 use Rattle.sf_bicomplex.specs.NextPages.{HasPageCoordinates, IsPageHomology}
 use Rattle.sf_bicomplex.specs.Pages.{HasDifferential, IsPage}
 use Rattle.sf_bicomplex.specs.TensorBicomplexes.{FreeComplex, IsFreeComplex, complex_of, tensor_of_complexes}
@@ -102,3 +103,13 @@ HasResidueLeadingColumns =
 -- and these are the generators of the homology of the total complex in that degree, with the relations x and y each
 abbrev pub HasResidueHomology : Type 0
 HasResidueHomology = IsGivenHomology residue_bicomplex (pos 1) paired_cycles pair_relations
+
+-- the parts of that homology: all of it is in column 1, and nothing in the two others
+abbrev pub no_pair_generators : Matrix
+no_pair_generators = matrix_of (plain 101) (pos 1 ∷ pos 1 ∷ []) []
+
+abbrev pub HasResidueParts : Type 0
+HasResidueParts =
+    IsPartOfHomology residue_bicomplex (pos 1) paired_cycles 0 no_pair_generators (matrix_of (plain 101) [] [])
+    × IsPartOfHomology residue_bicomplex (pos 1) paired_cycles 1 pair_generators pair_relations
+    × IsPartOfHomology residue_bicomplex (pos 1) paired_cycles 2 no_pair_generators (matrix_of (plain 101) [] [])

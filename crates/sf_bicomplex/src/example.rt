@@ -1,5 +1,5 @@
 ghost use Rattle.sf_bicomplex.specs.ResolvedExample.{GivesQuotient, HasClassThatIsSet, HasMultipleThatBounds, IsResolvingBicomplex, ResolvesExample};
-ghost use Rattle.sf_bicomplex.specs.TensorExample.{HasIdentityFromHomology, HasIdentityToHomology, HasLastResiduePage, HasNoResidueDifferential, HasResidueHomology, HasResidueLeadingColumns, HasResiduePage, HasResiduePageHomology, IsKoszulComplex, IsResidueBicomplex};
+ghost use Rattle.sf_bicomplex.specs.TensorExample.{HasIdentityFromHomology, HasIdentityToHomology, HasLastResiduePage, HasNoResidueDifferential, HasResidueHomology, HasResidueLeadingColumns, HasResiduePage, HasResiduePageHomology, HasResidueParts, IsKoszulComplex, IsResidueBicomplex};
 ghost use Rattle.sf_bicomplex.specs.TailExample.{HasTailBoundary, HasTailCycle, HasTailDifferential, IsTailBicomplex, RefusesNoTail};
 
 /// A bicomplex whose differential from column 2 to column 0 needs a tail in column 1.
@@ -23,7 +23,7 @@ pub fn row_resolution()
 
 /// The tensor bicomplex of the residue field of two variables with itself: page 2 at one spot, which is page 3 and the
 /// homology of page 2 by the identity; a differential of page 2 that is zero through two tails; and the homology of the
-/// total complex in degree 1, whose generators that page leads.
+/// total complex in degree 1, whose generators that page leads, and which is all in column 1.
 pub fn residue_field()
     ensures complex { IsKoszulComplex }
     ensures bicomplex { IsResidueBicomplex }
@@ -35,4 +35,5 @@ pub fn residue_field()
     ensures from_homology { HasIdentityFromHomology }
     ensures leading { HasResidueLeadingColumns }
     ensures total { HasResidueHomology }
+    ensures parts { HasResidueParts }
 {}

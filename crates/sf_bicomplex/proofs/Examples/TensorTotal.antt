@@ -44,7 +44,7 @@ abbrev Boundary : Vector → Type 0
 Boundary = IsTotalBoundary residue_bicomplex (pos 2) (pos 1)
 
 -- the part in column 1
-abbrev first_two : Matrix
+abbrev pub first_two : Matrix
 first_two = record {
   ring = plain 101;
   target = pos 1 ∷ pos 1 ∷ [];
@@ -89,10 +89,10 @@ from_relations =
     (relation_submodule paired_cycles plain_ring (pos 1 ∷ pos 1 ∷ pos 1 ∷ pos 1 ∷ []) Boundary boundary_module) relation_rows
 
 -- the part in column 1 of a boundary is in the span of the relations
-abbrev arriving : Matrix
+abbrev pub arriving : Matrix
 arriving = stacked (total_map residue_bicomplex (pos 2) (pos 1)) (total_module residue_bicomplex (pos 1))
 
-boundary_rows : AllByRecursion (λ v. InSpan pair_relations (combined first_two v)) arriving.rows
+pub boundary_rows : AllByRecursion (λ v. InSpan pair_relations (combined first_two v)) arriving.rows
 unfolding add combination combination_terms normal insert sum_mod product_mod negative_mod
 boundary_rows = (
   record { coefficients = vector 2 (term 1 1 [] ∷ term 100 2 [] ∷ []); homogeneous = search (arith, ints); value = refl },
@@ -115,12 +115,17 @@ parts : matrix_product paired_cycles first_two ≡ identity (plain 101) (pos 1 �
 unfolding add combination combination_terms normal insert sum_mod product_mod negative_mod
 parts = refl
 
+-- the part in column 1 of the cycles with coefficients c is c
+pub cycle-part : (c : Vector) → IsVector (plain 101) (pos 1 ∷ pos 1 ∷ []) c
+    → combined first_two (combined paired_cycles c) ≡ c
+cycle-part c h =
+    sym (combined-matrix_product paired_cycles first_two plain_ring refl c)
+    ∙ ap (λ (m : Matrix). combined m c) parts
+    ∙ generators_combined c h
+
 pub to_relations : (c : Vector) → IsRelation paired_cycles Boundary c → InSpan pair_relations c
 to_relations c h =
-    subst (InSpan pair_relations)
-    (sym (combined-matrix_product paired_cycles first_two plain_ring refl c)
-    ∙ ap (λ (m : Matrix). combined m c) parts
-    ∙ generators_combined c h.coefficients)
+    subst (InSpan pair_relations) (cycle-part c h.coefficients)
     (sends-span arriving pair_relations first_two plain_ring refl refl pair-matrix boundary_rows (combined paired_cycles c) h.inside)
 
 -- the sum of the parts in both columns, and what is set in column 0
@@ -150,7 +155,7 @@ out = refl
 added_matrix : IsMatrix added
 added_matrix = search (arith, ints)
 
-first_matrix : IsMatrix first_two
+pub first_matrix : IsMatrix first_two
 first_matrix = search (arith, ints)
 
 arriving_matrix : IsMatrix arriving
