@@ -10,3 +10,4 @@ pub mod TensorPages
 pub mod TensorNext
 pub mod TensorTotal
 pub mod TensorParts
+pub mod RefusedLists

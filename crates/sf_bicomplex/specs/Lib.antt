@@ -18,3 +18,4 @@ pub mod TensorLaws
 pub mod TailExample
 pub mod ResolvedExample
 pub mod TensorExample
+pub mod RefusedExamples

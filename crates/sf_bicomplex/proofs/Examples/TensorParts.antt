@@ -34,7 +34,7 @@ use Rattle.sf_bicomplex.proofs.Spans.NoClasses.{presentation-none}
 use Rattle.sf_bicomplex.proofs.Spans.PageSpans.{IsSpanned-parts}
 use Rattle.sf_bicomplex.proofs.Spans.SpannedModules.{IsSpanned}
 
-abbrev Part : ℕ → Vector → Type 0
+abbrev pub Part : ℕ → Vector → Type 0
 Part k = IsOfPart residue_bicomplex (pos 2) (pos 1) (pos 0) paired_cycles k
 
 -- what stands in column 0 has no part in column 1
@@ -111,7 +111,7 @@ two_columns c h = record {
 all_in_two : (c : Vector) → IsVector (plain 101) (pos 1 ∷ pos 1 ∷ []) c → Part 2 c
 all_in_two c v = two_columns c ((rising 0 0 (omega arith) c).2 v)
 
-spanned : (k : ℕ) → IsSpanned (plain 101) (pos 1 ∷ pos 1 ∷ []) (Part k)
+pub spanned : (k : ℕ) → IsSpanned (plain 101) (pos 1 ∷ pos 1 ∷ []) (Part k)
 spanned k =
     IsSpanned-parts residue_bicomplex residue-bicomplex field (pos 2) (pos 1) (pos 0) refl refl paired_cycles refl refl
     paired_matrix k
