@@ -3,3 +3,4 @@ pub mod NearVectors
 pub mod PageVectors
 pub mod PageLaws
 pub mod FirstPages
+pub mod LowestRows

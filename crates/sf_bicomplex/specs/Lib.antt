@@ -4,6 +4,7 @@ pub mod TotalComplexLaws
 pub mod Pages
 pub mod PageLaws
 pub mod FirstPages
+pub mod LowestRows
 pub mod InducedFiltrations
 pub mod FiltrationLaws
 pub mod Descriptions
