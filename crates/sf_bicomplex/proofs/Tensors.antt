@@ -3,3 +3,5 @@ pub mod Multiples
 pub mod TensorLaws
 pub mod Factors
 pub mod Lists
+pub mod SignedSpans
+pub mod TensorPages

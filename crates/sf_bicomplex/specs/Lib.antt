@@ -16,6 +16,7 @@ pub mod ResolvedHomology
 pub mod GivenHomology
 pub mod TensorBicomplexes
 pub mod TensorLaws
+pub mod TensorPages
 pub mod TailExample
 pub mod ResolvedExample
 pub mod TensorExample

@@ -14,6 +14,7 @@ mod page;
 mod refused;
 mod resolved;
 mod tensor;
+mod tor;
 mod total;
 
 pub use example::{residue_field, row_resolution, tail};
@@ -26,4 +27,5 @@ pub use page::pages_are_homology;
 pub use refused::wrong_examples_are_refused;
 pub use resolved::resolved_rows_give_homology;
 pub use tensor::tensors_are_bicomplexes;
+pub use tor::tensor_pages_are_tor;
 pub use total::total_complexes;
