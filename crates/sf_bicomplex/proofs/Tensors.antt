@@ -5,3 +5,5 @@ pub mod Factors
 pub mod Lists
 pub mod SignedSpans
 pub mod TensorPages
+pub mod NearStacks
+pub mod TorPages

@@ -37,3 +37,10 @@ HasTensorProductsAsFirstPage =
     → IsPage (tensor_of_complexes c d) 1 (pos p) p g r
     ↔ IsPresentation c.ring (degree_sums (c.degrees p) (d.degrees 0))
     (IsAny c.ring (degree_sums (c.degrees p) (d.degrees 0))) (InSpan (tensor_relations c (d.map 1) p)) g r
+
+-- page 2 there is the homology of C x N
+abbrev pub HasTorAsSecondPage : Type 0
+HasTorAsSecondPage =
+    (c d : FreeComplex) → IsFreeComplex c → IsFreeComplex d → c.ring ≡ d.ring → IsOverField c.ring → (p : ℕ)
+    → p < c.places → (g r : Matrix)
+    → IsPage (tensor_of_complexes c d) 2 (pos p) p g r ↔ IsHomology (tensor_place c (d.map 1) p) g r

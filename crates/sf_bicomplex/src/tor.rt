@@ -1,7 +1,9 @@
-ghost use Rattle.sf_bicomplex.specs.TensorPages.{HasTensorProductsAsFirstPage};
+ghost use Rattle.sf_bicomplex.specs.TensorPages.{HasTensorProductsAsFirstPage, HasTorAsSecondPage};
 
-/// The first page of the tensor bicomplex of two complexes of free modules has, in the lowest row, the tensor products of the
-/// modules of the first complex with the module that the second one resolves.
+/// In the lowest row of the tensor bicomplex of two complexes of free modules the first page has the tensor products of the
+/// modules of the first complex with the module that the second one presents, and the second page the homology of these:
+/// where both complexes are resolutions, Tor.
 pub fn tensor_pages_are_tor()
     ensures first { HasTensorProductsAsFirstPage }
+    ensures second { HasTorAsSecondPage }
 {}

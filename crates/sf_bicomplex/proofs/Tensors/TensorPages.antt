@@ -1,8 +1,7 @@
 -- The first page of a tensor bicomplex in row 0: no generators stand below, and dv from row 1 is, but for a sign, the map of the
 -- second complex to place 0.
-use Rattle.std.proofs.Common.{◌≡◌, ◌↔◌, ◌<◌, ℕ, List, [], ◌∷◌, ◌++◌, map, refl, sym, ap, ◌∙◌, subst, arith, ℤ, pos, negsuc, ◌+ℤ◌, ◌-ℤ◌}
+use Rattle.std.proofs.Common.{◌≡◌, ◌↔◌, ◌<◌, ℕ, List, [], ◌∷◌, refl, sym, ap, ◌∙◌, subst, arith, ℤ, pos, negsuc, ◌+ℤ◌, ◌-ℤ◌}
 use Rattle.std.proofs.lemmas.Int.{ints}
-use Rattle.std.specs.List.{flat_map}
 use Rattle.sf_algebra.specs.Matrices.{IsMatrix, Matrix, row_degrees}
 use Rattle.sf_algebra.specs.MatrixOperations.{degree_sums, identity, kronecker}
 use Rattle.sf_algebra.specs.Rings.{IsOverField, IsRing, Ring}
@@ -24,7 +23,7 @@ use Rattle.sf_groebner.proofs.WorkedExamples.FreeRelations.{span-no_rows}
 use Rattle.sf_presented.proofs.EqualModulo.{AreEqualModulo-equal, AreEqualModulo-sym}
 use Rattle.sf_bicomplex.specs.Bicomplexes.{Bicomplex, IsBicomplex}
 use Rattle.sf_bicomplex.specs.Pages.{IsBoundaryOfPage, IsCycleOfPage, IsNear, IsPage}
-use Rattle.sf_bicomplex.specs.TensorBicomplexes.{FreeComplex, IsFreeComplex, free_relations, signed, tensor_of_complexes}
+use Rattle.sf_bicomplex.specs.TensorBicomplexes.{FreeComplex, IsFreeComplex, signed, tensor_of_complexes}
 use Rattle.sf_bicomplex.specs.TensorPages.{tensor_relations}
 use Rattle.sf_bicomplex.specs.TotalColumns.{place}
 use Rattle.sf_bicomplex.proofs.Pages.FirstPages.{first_boundaries}
@@ -63,13 +62,13 @@ module _ (c d : FreeComplex) (hc : IsFreeComplex c) (hd : IsFreeComplex d) (ring
     abbrev degrees : List ℤ
     degrees = degree_sums (c.degrees p) (d.degrees 0)
 
-    T_matrix : IsMatrix T
+    pub T_matrix : IsMatrix (tensor_relations c (d.map 1) p)
     T_matrix =
         let s = hd.sources 1 in
         IsMatrix-kronecker (identity c.ring (c.degrees p)) (d.map 1) positive.modulus (rings ∙ sym s.ring_of)
         (IsMatrix-identity c.ring prime.prime.above_one (c.degrees p)) s.matrix
 
-    T_target : T.target ≡ degrees
+    pub T_target : (tensor_relations c (d.map 1) p).target ≡ degree_sums (c.degrees p) (d.degrees 0)
     T_target = ap (degree_sums (c.degrees p)) (hd.targets 0)
 
     T_degrees : row_degrees T ≡ degree_sums (c.degrees p) (d.degrees 1)

@@ -1,5 +1,6 @@
 use Rattle.sf_bicomplex.proofs.Tensors.TensorPages.{first_page}
+use Rattle.sf_bicomplex.proofs.Tensors.TorPages.{second_page}
 use Rattle.sf_bicomplex.proofs.tor.tensor_pages_are_tor.Goals as goal
 
 pub returns : goal.returns
-returns c = record { first = first_page }
+returns c = record { first = first_page; second = second_page }
