@@ -7,3 +7,4 @@ pub mod BidualSpots
 pub mod PurityParts
 pub mod Existing
 pub mod Bounded
+pub mod HighestColumns

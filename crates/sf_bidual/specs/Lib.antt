@@ -10,3 +10,4 @@ pub mod BidualLaws
 pub mod AugmentationLaws
 pub mod Purity
 pub mod PurityLaws
+pub mod TorsionLaws

@@ -12,6 +12,7 @@ mod existence;
 mod horizontal;
 mod horseshoe;
 mod purity;
+mod torsion;
 
 pub use augmentation::bidual_has_the_homology_of_the_module;
 pub use bidual::bidual_is_a_bicomplex;
@@ -21,3 +22,4 @@ pub use existence::cartan_eilenberg_resolutions_exist;
 pub use horizontal::horizontal_maps_commute;
 pub use horseshoe::horseshoes_are_exact;
 pub use purity::modules_have_purity_filtrations;
+pub use torsion::torsion_stands_in_lower_columns;

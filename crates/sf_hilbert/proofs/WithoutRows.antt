@@ -27,7 +27,7 @@ module _ (ring : Ring) (N B : Vector → Type 0) (zeros : (v : Vector) → N v �
   no_basis (v ∷ vs) inside monic = absurd (subst IsMonic (zeros v inside.0) monic.0)
 
   -- minimal generators of zeros are none
-  minimal_none : (generators : List Vector) → AreMinimal ring N B generators → generators ≡ []
+  pub minimal_none : (generators : List Vector) → AreMinimal ring N B generators → generators ≡ []
   minimal_none generators h =
       subst (λ vs. AreKept ring B [] vs generators) (no_basis h.basis h.reduced.inside h.reduced.monic) h.kept
 

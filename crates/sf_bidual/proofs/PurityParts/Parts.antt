@@ -53,7 +53,7 @@ module _ (relations : Matrix) (n : ℕ) (steps : ℕ → Matrix) (x : CartanEile
       (IsOfPurity relations.ring n x k)
   parts k = IsSpanned-parts b h prime above (pos n) below first refl e refl refl facts-matrix k
 
-  known_parts : (k : ℕ) → IsSpanned relations.ring relations.target (IsOfPurity relations.ring n x k)
+  pub known_parts : (k : ℕ) → IsSpanned relations.ring relations.target (IsOfPurity relations.ring n x k)
   known_parts k = subst (λ ds. IsSpanned relations.ring ds (IsOfPurity relations.ring n x k)) same (parts k)
 
   pub rising : (k l : ℕ) → k ≤ l → (m : Vector)

@@ -1,0 +1,3 @@
+-- The highest column of the purity filtration.
+pub mod Onto
+pub mod HighestColumn
