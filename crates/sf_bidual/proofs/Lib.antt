@@ -8,3 +8,4 @@ pub mod PurityParts
 pub mod Existing
 pub mod Bounded
 pub mod HighestColumns
+pub mod Examples

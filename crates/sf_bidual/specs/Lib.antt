@@ -11,3 +11,4 @@ pub mod AugmentationLaws
 pub mod Purity
 pub mod PurityLaws
 pub mod TorsionLaws
+pub mod PurityExample
