@@ -7,3 +7,6 @@ pub mod SignedSpans
 pub mod TensorPages
 pub mod NearStacks
 pub mod TorPages
+pub mod Shifts
+pub mod FreeExact
+pub mod HigherRows

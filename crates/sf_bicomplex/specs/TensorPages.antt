@@ -1,7 +1,7 @@
 -- The lowest row of the tensor bicomplex of two complexes C and D of free modules: its first page is C x N, where N has the map
 -- of D to place 0 as relations, and its second page is the homology of that complex, which is Tor where C and D resolve.
 -- (Weibel, "An Introduction to Homological Algebra", sections 2.7 and 5.6.)
-use Rattle.std.specs.Prelude.{◌≡◌, ◌↔◌, ℕ, zero, suc, ◌<◌, [], pos}
+use Rattle.std.specs.Prelude.{◌≡◌, ◌↔◌, ◌+◌, ℕ, zero, suc, ◌<◌, [], pos}
 use Rattle.sf_algebra.specs.Matrices.{Matrix}
 use Rattle.sf_algebra.specs.MatrixOperations.{degree_sums, identity, kronecker}
 use Rattle.sf_algebra.specs.Rings.{IsOverField}
@@ -9,6 +9,7 @@ use Rattle.sf_groebner.specs.Homology.{ComplexPlace, IsAny, IsHomology}
 use Rattle.sf_groebner.specs.MinimalGenerators.{matrix_of}
 use Rattle.sf_groebner.specs.Presentations.{IsPresentation}
 use Rattle.sf_groebner.specs.Spans.{InSpan}
+use Rattle.sf_homotopy.specs.Exactness.{IsExactPair}
 use Rattle.sf_bicomplex.specs.Pages.{IsPage}
 use Rattle.sf_bicomplex.specs.TensorBicomplexes.{FreeComplex, IsFreeComplex, tensor_of_complexes}
 
@@ -44,3 +45,10 @@ HasTorAsSecondPage =
     (c d : FreeComplex) → IsFreeComplex c → IsFreeComplex d → c.ring ≡ d.ring → IsOverField c.ring → (p : ℕ)
     → p < c.places → (g r : Matrix)
     → IsPage (tensor_of_complexes c d) 2 (pos p) p g r ↔ IsHomology (tensor_place c (d.map 1) p) g r
+
+-- where D is exact but at place 0, page 1 has nothing above row 0
+abbrev pub HasNothingAbove : Type 0
+HasNothingAbove =
+    (c d : FreeComplex) → IsFreeComplex c → IsFreeComplex d → c.ring ≡ d.ring → IsOverField c.ring
+    → ((q : ℕ) → IsExactPair (d.map (suc q)) (d.map (suc (suc q)))) → (p q : ℕ) → p < c.places → (g r : Matrix)
+    → IsPage (tensor_of_complexes c d) 1 (pos (p + suc q)) p g r → (g.rows ≡ []) × (r.rows ≡ [])

@@ -37,7 +37,7 @@ pub degree_sums-nothing : (ds : List ℤ) → degree_sums ds [] ≡ []
 degree_sums-nothing [] = refl
 degree_sums-nothing (d ∷ ds) = degree_sums-nothing ds
 
-no_rows-kronecker : (a : Matrix) (ring : Ring) (target : List ℤ) → (kronecker a (matrix_of ring target [])).rows ≡ []
+pub no_rows-kronecker : (a : Matrix) (ring : Ring) (target : List ℤ) → (kronecker a (matrix_of ring target [])).rows ≡ []
 no_rows-kronecker a ring target = each a.rows
   where
     each : (vs : List Vector) → (kronecker (matrix_of a.ring a.target vs) (matrix_of ring target [])).rows ≡ []
