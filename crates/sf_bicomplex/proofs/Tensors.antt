@@ -10,3 +10,4 @@ pub mod TorPages
 pub mod Shifts
 pub mod FreeExact
 pub mod HigherRows
+pub mod ExactLists

@@ -1,4 +1,4 @@
-ghost use Rattle.sf_bicomplex.specs.TensorPages.{HasNothingAbove, HasTensorProductsAsFirstPage, HasTorAsSecondPage};
+ghost use Rattle.sf_bicomplex.specs.TensorPages.{HasExactResolutions, HasNothingAbove, HasTensorProductsAsFirstPage, HasTorAsSecondPage};
 
 /// In the lowest row of the tensor bicomplex of two complexes of free modules the first page has the tensor products of the
 /// modules of the first complex with the module that the second one presents, and the second page the homology of these:
@@ -7,4 +7,5 @@ pub fn tensor_pages_are_tor()
     ensures first { HasTensorProductsAsFirstPage }
     ensures second { HasTorAsSecondPage }
     ensures above { HasNothingAbove }
+    ensures resolutions { HasExactResolutions }
 {}
