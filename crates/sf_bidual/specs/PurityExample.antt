@@ -30,3 +30,9 @@ HasVariableParts =
     (steps : ℕ → Matrix) (x : CartanEilenberg) → IsBidualOf variable_relation 1 steps x
     → IsPurityPart variable_relation 1 x 0 (identity (plain 101) (pos 0 ∷ [])) variable_relation
     × IsPurityPart variable_relation 1 x 1 (matrix_of (plain 101) (pos 0 ∷ []) []) (matrix_of (plain 101) [] [])
+
+-- it isn't all in column 0, whose number is 1
+abbrev pub RefusesVariableAsFree : Type 0
+RefusesVariableAsFree =
+    (steps : ℕ → Matrix) (x : CartanEilenberg) → IsBidualOf variable_relation 1 steps x
+    → IsPurityPart variable_relation 1 x 1 (identity (plain 101) (pos 0 ∷ [])) variable_relation → ⊥

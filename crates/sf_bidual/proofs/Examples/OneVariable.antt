@@ -1,6 +1,6 @@
 -- The residue field of one variable: its presentation, that x has no syzygies, so no vector is sent to 0 by its transpose, and
 -- what follows for the filtration.
-use Rattle.std.proofs.Common.{◌≡◌, ◌<◌, ℕ, zero, suc, false, true, List, [], ◌∷◌, inr, refl, sym, ap, ◌∙◌, subst, arith, ℤ, pos, negsuc, ◌+ℤ◌}
+use Rattle.std.proofs.Common.{◌≡◌, ◌<◌, ℕ, zero, suc, false, true, List, [], ◌∷◌, length, inr, refl, sym, ap, ◌∙◌, subst, arith, ℤ, pos, negsuc, ◌+ℤ◌}
 use Rattle.std.proofs.lemmas.Int.{ints}
 use Rattle.std.specs.List.{AllByRecursion}
 use Rattle.sf_algebra.specs.Matrices.{IsMatrix, Matrix}
@@ -36,10 +36,10 @@ use Rattle.sf_bicomplex.proofs.Examples.TailPages.{field}
 use Rattle.sf_bidual.specs.Bidual.{dual_maps}
 use Rattle.sf_bidual.specs.CartanEilenberg.{arriving}
 use Rattle.sf_bidual.specs.Purity.{IsOfPurity}
-use Rattle.sf_bidual.specs.PurityExample.{HasNoVariableMaps, HasVariableBidual, HasVariableParts, variable_relation}
+use Rattle.sf_bidual.specs.PurityExample.{HasNoVariableMaps, HasVariableBidual, HasVariableParts, RefusesVariableAsFree, variable_relation}
 use Rattle.sf_bidual.proofs.Bounded.Modules.{bidual_of_variables}
 use Rattle.sf_bidual.proofs.HighestColumns.HighestColumn.{no_highest_part, torsion_in_lower_columns}
-use Rattle.sf_bidual.proofs.PurityParts.Parts.{rising}
+use Rattle.sf_bidual.proofs.PurityParts.Parts.{purity_parts, rising}
 use Rattle.sf_bidual.proofs.PurityParts.Presented.{augmentation-degrees}
 
 relation-matrix : IsMatrix variable_relation
@@ -187,3 +187,10 @@ variable-parts steps x d =
           (λ m. (parts 0 0 (omega arith) m).1.1) (λ m. (parts 0 0 (omega arith) m).1.0),
       no_highest_part variable_relation 1 steps x field relation-matrix d none,
     )
+
+pub refuses-variable_as_free : RefusesVariableAsFree
+refuses-variable_as_free steps x d h =
+    let same =
+    ((purity_parts variable_relation 1 steps x field relation-matrix d 1).1 generators variable_relation
+    (matrix_of (plain 101) (pos 0 ∷ []) []) (matrix_of (plain 101) [] []) h (variable-parts steps x d).1).0 in
+    absurd (omega (arith, ap (λ (m : Matrix). length m.rows) same))
