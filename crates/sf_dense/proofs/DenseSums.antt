@@ -1,0 +1,2 @@
+-- Vectors as sums over the places of a list: what an addition of entries means, and what is read off.
+pub mod Additions
