@@ -3,3 +3,4 @@ pub mod Additions
 pub mod Residues
 pub mod ReadOut
 pub mod PlacedEntries
+pub mod Steps

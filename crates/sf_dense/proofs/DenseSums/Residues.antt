@@ -1,14 +1,14 @@
 -- The vector that sums over falling places stand for: its terms are the residues other than 0 of the sums, one place after
 -- the other.
-use Rattle.std.proofs.Common.{◌≡◌, ℕ, zero, suc, ◌+◌, ◌%◌, ◌<◌, List, [], ◌∷◌, ◌++◌, length, map, get_or, refl, sym, ◌∙◌, ap, subst, arith, append_assoc, length-append}
+use Rattle.std.proofs.Common.{◌≡◌, ℕ, zero, suc, ◌%◌, ◌<◌, List, [], ◌∷◌, ◌++◌, length, refl, sym, ◌∙◌, ap, arith, append_assoc, length-append}
 use Rattle.std.proofs.Math.Nat.{mod-lt}
 use Rattle.std.proofs.Math.Seq.{get_or-append_seam}
 use Rattle.std.specs.declared.cmp.Ordering.TheVariants.{Less}
 use Rattle.std.specs.List.{AllByRecursion}
 use Rattle.sf_algebra.specs.Residues.{sum_mod}
 use Rattle.sf_algebra.specs.Rings.{ones}
-use Rattle.sf_algebra.specs.Sums.{put, normal, total}
-use Rattle.sf_algebra.specs.Terms.{Term, IsCanonical, IsDescending, IsNonzeroResidue}
+use Rattle.sf_algebra.specs.Sums.{put}
+use Rattle.sf_algebra.specs.Terms.{Term, IsDescending, IsNonzeroResidue}
 use Rattle.sf_algebra.specs.Vectors.{Place, place_cmp}
 use Rattle.sf_algebra.proofs.Arithmetic.Residues.{sum_mod-first}
 use Rattle.sf_algebra.proofs.Monomials.Orders.{place_cmp_linear}
