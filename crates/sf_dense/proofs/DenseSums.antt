@@ -4,3 +4,4 @@ pub mod Residues
 pub mod ReadOut
 pub mod PlacedEntries
 pub mod Steps
+pub mod Walks

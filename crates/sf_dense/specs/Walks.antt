@@ -19,3 +19,7 @@ pub record HasEntry (ks : List Place) (a : Monomial) (t : Term Place) : Type 0 w
   pub number : cell < 2 ^ 32
   pub inside : cell < length ks
   pub place : column_at ks cell ≡ place_product a t.at
+
+-- the product stands in the list at the number from, or behind it, or not at all
+abbrev pub IsFrom : List Place → Monomial → ℕ → Term Place → Type 0
+IsFrom ks a from t = (i : ℕ) → i < length ks → column_at ks i ≡ place_product a t.at → from ≤ i

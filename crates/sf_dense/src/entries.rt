@@ -1,11 +1,13 @@
-ghost use Rattle.std.specs.Prelude.{◌≡◌, ◌+◌, ◌<◌, ◌≤◌, ℕ, length, map, IfOk, IfSome, MatchOption, Some};
+ghost use Rattle.std.specs.Prelude.{◌≡◌, ◌+◌, ◌<◌, ◌≤◌, ℕ, length, map, IfOk, IfSome, IsSome, Some};
+ghost use Rattle.std.specs.List.{AllByRecursion};
 ghost use Rattle.sf_algebra.specs.Multiples.{place_product};
 ghost use Rattle.sf_algebra.specs.Rings.{ones};
 ghost use Rattle.sf_algebra.specs.Terms.{IsDescending};
 ghost use Rattle.sf_algebra.specs.Vectors.{place_cmp};
+ghost use Rattle.sf_variables.specs.Columns.{AreFalling};
 ghost use Rattle.sf_dense.specs.Entries.{column_at, placed};
 ghost use Rattle.sf_dense.specs.MonicEntries.{AreWithin};
-ghost use Rattle.sf_dense.specs.Walks.{times_monomial};
+ghost use Rattle.sf_dense.specs.Walks.{times_monomial, HasEntry, IsFrom};
 
 use crate::place::Place;
 use sf_field::OutOfMemory;
@@ -48,6 +50,7 @@ pub fn multiple_entries(
 ) -> Result<Option<Vec<Entry>>, OutOfMemory>
     ensures entries { IfOk result (λ found. IfSome found (λ es. placed columns.now es.items ≡ map (times_monomial factor) terms.now)) }
     ensures within { IfOk result (λ found. IfSome found (λ es. AreWithin (length columns.now) es.items)) }
+    ensures found { IfOk result (λ found. AreFalling ones columns.now → IsDescending (place_cmp ones) terms.now → AllByRecursion (HasEntry columns.now factor) terms.now → IsSome found) }
 {
     let mut entries = Vec::with_capacity(alloc, terms.len())?;
     let mut from = 0;
@@ -67,6 +70,7 @@ fn multiple_entry(columns: &[Place], from: usize, term: &Term, factor: Mono) -> 
     ensures place { IfSome result (λ e. column_at columns.now e.cell ≡ place_product factor term.now.at) }
     ensures coefficient { IfSome result (λ e. e.coefficient ≡ term.now.coefficient) }
     ensures within { IfSome result (λ e. e.cell < length columns.now) }
+    ensures found { AreFalling ones columns.now → HasEntry columns.now factor term.now → IsFrom columns.now factor from term.now → IsSome result }
 {
     if factor.sum() + term.monomial.sum() > GREATEST_SUM || term.coefficient > u16::MAX as u32 {
         return None;
@@ -102,6 +106,7 @@ fn compared(a: &Place, b: &Place) -> Ordering
 fn place_from(columns: &[Place], from: usize, place: Place) -> Option<usize>
     ensures place { IfSome result (λ i. column_at columns.now i ≡ place) }
     ensures within { IfSome result (λ i. i < length columns.now) }
+    ensures found { AreFalling ones columns.now → (i : ℕ) → from ≤ i → i < length columns.now → column_at columns.now i ≡ place → result ≡ Some i }
 {
     let mut low = from;
     let mut high = columns.len();

@@ -1,8 +1,11 @@
 -- The terms that entries stand for over falling places: they descend where the entries' numbers rise, and they are a
 -- multiple where the entries are those of one.
-use Rattle.std.proofs.Common.{◌≡◌, ℕ, zero, suc, ◌<◌, List, [], ◌∷◌, length, map, refl, ◌∙◌, ap, arith}
-use Rattle.std.specs.declared.cmp.Ordering.TheVariants.{Less}
+use Rattle.std.proofs.Common.{◌≡◌, ℕ, zero, suc, ◌<◌, List, [], ◌∷◌, length, map, inl, inr, refl, ◌∙◌, ap, subst, arith}
+use Rattle.std.specs.declared.cmp.Ordering.TheVariants.{Less, Equal}
 use Rattle.std.specs.List.{AllByRecursion}
+use Rattle.std.proofs.lemmas.Bool.{cases_eq, cases_lt}
+use Rattle.std.proofs.lemmas.Cmp.{tied_itself}
+use Rattle.sf_algebra.proofs.Monomials.Orders.{place_cmp_linear}
 use Rattle.sf_algebra.specs.Monomials.{Monomial, one}
 use Rattle.sf_algebra.specs.Multiples.{place_product, term_product, multiple}
 use Rattle.sf_algebra.specs.Residues.{product_mod}
@@ -17,6 +20,9 @@ use Rattle.sf_variables.specs.Columns.{AreFalling}
 use Rattle.sf_dense.specs.Entries.{Entry, column_at, placed}
 use Rattle.sf_dense.specs.MonicEntries.{AreRising, AreWithin}
 use Rattle.sf_dense.specs.Walks.{times_monomial}
+
+place_cmp-irreflexive : (k : Place) → place_cmp ones k k ≡ Less → ⊥
+place_cmp-irreflexive k less = let equal : place_cmp ones k k ≡ Equal = tied_itself (place_cmp_linear ones).total k in cc
 
 AllByRecursion-column : (P : Place → Type 0) (ks : List Place) (i : ℕ) → AllByRecursion P ks → i < length ks
     → P (column_at ks i)
@@ -35,6 +41,32 @@ column_at-falling (k ∷ ks) (suc i) (suc j) falling before within =
     column_at-falling ks i j falling.1 (omega arith) (omega arith)
 
 module _ (ks : List Place) (falling : AreFalling ones ks) where
+  -- a smaller place has a later number
+  pub column_at-after : (i j : ℕ) → i < length ks → place_cmp ones (column_at ks j) (column_at ks i) ≡ Less → i < j
+  column_at-after i j within less = elim (cases_lt i j) [
+    | inl before ↦ before
+    | inr behind ↦ elim (cases_eq j i) [
+      | inl same ↦
+          absurd (place_cmp-irreflexive (column_at ks i) (subst (λ n. place_cmp ones (column_at ks n) (column_at ks i) ≡ Less) same less))
+      | inr apart ↦
+          let greater : place_cmp ones (column_at ks i) (column_at ks j) ≡ Less =
+          column_at-falling ks j i falling (omega arith) within in
+          absurd (place_cmp-irreflexive (column_at ks i) ((place_cmp_linear ones).total.trans (column_at ks i) (column_at ks j) (column_at ks i) greater less))
+    ]
+  ]
+
+  -- a place has one number
+  pub column_at-one : (i j : ℕ) → i < length ks → j < length ks → column_at ks i ≡ column_at ks j → i ≡ j
+  column_at-one i j within_i within_j same = elim (cases_eq i j) [
+    | inl here ↦ here
+    | inr apart ↦ elim (cases_lt i j) [
+      | inl before ↦
+          absurd (place_cmp-irreflexive (column_at ks j) (subst (λ k. place_cmp ones (column_at ks j) k ≡ Less) same (column_at-falling ks i j falling before within_j)))
+      | inr behind ↦
+          absurd (place_cmp-irreflexive (column_at ks j) (subst (λ k. place_cmp ones k (column_at ks j) ≡ Less) same (column_at-falling ks j i falling (omega arith) within_i)))
+    ]
+  ]
+
   IsAboveEach-placed : (i : ℕ) (es : List Entry) → AllByRecursion (λ (e : Entry). i < e.cell) es → AreWithin (length ks) es
       → AllByRecursion (λ (t : Term Place). place_cmp ones t.at (column_at ks i) ≡ Less) (placed ks es)
   IsAboveEach-placed i [] above within = tt
