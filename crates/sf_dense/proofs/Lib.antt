@@ -1,1 +1,2 @@
 pub mod DenseSums
+pub mod PlacesOfDegree

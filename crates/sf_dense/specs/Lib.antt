@@ -1,3 +1,4 @@
 pub mod Entries
 pub mod MonicEntries
 pub mod Walks
+pub mod PlaceLists

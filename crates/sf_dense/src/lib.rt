@@ -2,10 +2,12 @@
 #![tactic(auto)]
 
 mod cells;
+mod columns;
 mod entries;
 mod place;
 
 pub use cells::Cells;
+pub use columns::columns_of;
 pub use entries::{Entry, multiple_entries, terms_of};
 pub use place::Place;
 
