@@ -1,5 +1,7 @@
--- The list of all places of a degree: multiples of a place in order, and the places at one generator after another.
+-- The list of all places of a degree: the multiples of a place by monomials, by their first and last variables;
+-- monomials without the last variable and with it; that the list has all multiples, the greatest first; and one generator
+-- after another.
+pub mod Multiples
+pub mod LastVariables
 pub mod AllMultiples
 pub mod Generators
-pub mod LastVariables
-pub mod Multiples

@@ -87,14 +87,16 @@ multiples_of-all k (suc d) (suc n) room a h =
           let degree = h.degree in
           let rest : IsOfDegree d (suc n) (quotient a x) =
           record { degree = omega arith; variables = IsInVariables-quotient (suc n) a x h.variables } in
-          Contains-append_right (multiples_of k (suc d) n) (multiples_of (place_product x k) d (suc n)) (place_product a k)
+          Contains-append_right (multiples_of k (suc d) n) (multiples_of (place_product x k) d (suc n))
+          (place_product a k)
           (subst (Contains (multiples_of (place_product x k) d (suc n)))
           (sym (place_product-assoc (quotient a x) x k) ∙ ap (λ b. place_product b k) whole)
           (multiples_of-all (place_product x k) d (suc n) room (quotient a x) rest))
       | inr without ↦
           let fewer : IsOfDegree (suc d) n a =
           record { degree = h.degree; variables = IsInVariables-fewer n a (omega arith) h.variables } in
-          Contains-append_left (multiples_of k (suc d) n) (multiples_of (place_product (variable n) k) d (suc n)) (place_product a k)
+          Contains-append_left (multiples_of k (suc d) n) (multiples_of (place_product (variable n) k) d (suc n))
+          (place_product a k)
           (multiples_of-all k (suc d) n (omega arith) a fewer)
     ]
 

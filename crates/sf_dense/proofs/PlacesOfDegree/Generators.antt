@@ -108,7 +108,8 @@ module _ (n : ℕ) (gs : List ℤ) (g d : ℤ) where
             AllByRecursion-append (IsColumn ones n (gs ++ g ∷ []) d) ks new
             (AllByRecursion-weaken (IsColumn ones n gs d) (IsColumn ones n (gs ++ g ∷ []) d) IsColumn-more ks h.inside)
             (AllByRecursion-weaken (IsMultiple at r n) (IsColumn ones n (gs ++ g ∷ []) d)
-            (λ l w. subst (IsColumn ones n (gs ++ g ∷ []) d) (sym (times_generator (length gs) w.0) ∙ w.2) (last_column r w.0 degree w.1))
+            (λ l w. subst (IsColumn ones n (gs ++ g ∷ []) d) (sym (times_generator (length gs) w.0) ∙ w.2)
+            (last_column r w.0 degree w.1))
             new
             (multiples_of-inside at r n room));
         all = λ k column.
@@ -118,7 +119,8 @@ module _ (n : ℕ) (gs : List ℤ) (g d : ℤ) where
                   let e = last_degree k from column in
                   let lacks = e.1 in
                   let whole : place_product k.monomial at ≡ k =
-                  times_generator (length gs) k.monomial ∙ ap (λ i. record { position = i; monomial = k.monomial }) (sym e.0) in
+                  times_generator (length gs) k.monomial
+                  ∙ ap (λ i. record { position = i; monomial = k.monomial }) (sym e.0) in
                   Contains-append_right ks new k
                   (subst (Contains new) whole
                   (multiples_of-all at r n room k.monomial

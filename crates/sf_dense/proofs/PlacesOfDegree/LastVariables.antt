@@ -51,9 +51,12 @@ pub Divides-variable : (n : ℕ) (a : Monomial) → 0 < exponent a n → Divides
 Divides-variable zero a h = (omega arith, omega arith, omega arith, omega arith, omega arith, omega arith)
 Divides-variable (suc zero) a h = (omega arith, omega arith, omega arith, omega arith, omega arith, omega arith)
 Divides-variable (suc (suc zero)) a h = (omega arith, omega arith, omega arith, omega arith, omega arith, omega arith)
-Divides-variable (suc (suc (suc zero))) a h = (omega arith, omega arith, omega arith, omega arith, omega arith, omega arith)
-Divides-variable (suc (suc (suc (suc zero)))) a h = (omega arith, omega arith, omega arith, omega arith, omega arith, omega arith)
-Divides-variable (suc (suc (suc (suc (suc zero))))) a h = (omega arith, omega arith, omega arith, omega arith, omega arith, omega arith)
+Divides-variable (suc (suc (suc zero))) a h =
+    (omega arith, omega arith, omega arith, omega arith, omega arith, omega arith)
+Divides-variable (suc (suc (suc (suc zero)))) a h =
+    (omega arith, omega arith, omega arith, omega arith, omega arith, omega arith)
+Divides-variable (suc (suc (suc (suc (suc zero))))) a h =
+    (omega arith, omega arith, omega arith, omega arith, omega arith, omega arith)
 Divides-variable (suc (suc (suc (suc (suc (suc n)))))) a h = absurd (omega arith)
 
 -- a multiple of a variable has an exponent in it

@@ -16,7 +16,8 @@ multiples_of-none k (suc d) (suc n) h positive = absurd (omega arith)
 
 -- one more of the first variable
 power-suc : (d : ℕ) (k : Place)
-    → place_product (from_exponents (d ∷ [])) (place_product (variable 0) k) ≡ place_product (from_exponents (suc d ∷ [])) k
+    → place_product (from_exponents (d ∷ [])) (place_product (variable 0) k)
+    ≡ place_product (from_exponents (suc d ∷ [])) k
 power-suc d k =
     sym (place_product-assoc (from_exponents (d ∷ [])) (variable 0) k)
     ∙ ap (λ a. place_product a k)

@@ -28,7 +28,8 @@ fn push_power(
     degree: u32,
 ) -> Result<bool, OutOfMemory>
     requires { exponent_sum from.monomial + degree ≤ GREATEST_SUM }
-    ensures all { IfOk result (λ all. OnTrue all (places.new.items ≡ places.old.items ++ place_product (from_exponents (degree ∷ [])) from ∷ [])) }
+    ensures all { let added = place_product (from_exponents (degree ∷ [])) from in
+        IfOk result (λ all. OnTrue all (places.new.items ≡ places.old.items ++ added ∷ [])) }
     ensures few { IfOk result (λ all. OnTrue all (length places.new.items ≤ most)) }
 {
     if places.len() >= most {
