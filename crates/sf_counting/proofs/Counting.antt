@@ -1,0 +1,2 @@
+-- How many leads there are: elimination by the places that stand for coefficients, and what full degrees give.
+pub mod Elimination
