@@ -124,17 +124,17 @@ module _ {X : Type 0} (weights : Weights) (p : ℕ) (prime : IsPrime p) (value :
             })
           ]
           | inr q ↦ let under = q.below l falling.0 in inr (record {
-              pivot = q.pivot;
-              inside = q.inside;
-              lead = q.lead;
-              is_lead = q.is_lead;
-              nonzero = q.nonzero;
-              others = l ∷ q.others;
-              falling = (under.1, q.falling);
-              leads = (cleared v q.pivot l q.lead inside is_lead q.inside q.is_lead q.nonzero under.0, q.leads);
-              below = λ b h. let lower = q.below b h.1 in (lower.0, (h.0, lower.1));
-              size = ap suc q.size;
-            })
+            pivot = q.pivot;
+            inside = q.inside;
+            lead = q.lead;
+            is_lead = q.is_lead;
+            nonzero = q.nonzero;
+            others = l ∷ q.others;
+            falling = (under.1, q.falling);
+            leads = (cleared v q.pivot l q.lead inside is_lead q.inside q.is_lead q.nonzero under.0, q.leads);
+            below = λ b h. let lower = q.below b h.1 in (lower.0, (h.0, lower.1));
+            size = ap suc q.size;
+          })
         ]
 
   pub count_leads : (cs : List Place) (In : X → Type 0) → IsClosed In
