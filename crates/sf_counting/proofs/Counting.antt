@@ -3,3 +3,4 @@ pub mod Elimination
 pub mod Filters
 pub mod Coefficients
 pub mod GraphLeads
+pub mod FullDegrees

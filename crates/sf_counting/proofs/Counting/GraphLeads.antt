@@ -28,6 +28,7 @@ use Rattle.sf_algebra.proofs.Vectors.Rows.{row_combination-cons, row_combination
 use Rattle.sf_groebner.specs.BasisParts.{coefficient_part}
 use Rattle.sf_groebner.specs.Criterion.{lead_at}
 use Rattle.sf_groebner.specs.Divisions.{step, step_tail}
+use Rattle.sf_groebner.specs.Leads.{PlaceDivides}
 use Rattle.sf_groebner.specs.ReducedBases.{HasDividedLead, IsMonic, is_divided}
 use Rattle.sf_groebner.specs.Spans.{IsGraphVector, coefficient_terms, graph_degrees}
 use Rattle.sf_groebner.proofs.Basics.Items.{AllByRecursion-both, AllByRecursion-from_items, AllByRecursion-item, IsItem, IsItem-filter}
@@ -182,20 +183,25 @@ module _ (n : ℕ) (m : Matrix) (prime : IsOverField m.ring) (matrix : IsMatrix 
         AllByRecursion-both (IsGraphVector m) (λ (v : Vector). IsMonic v.terms) (IsMonicVector m.ring (graph_degrees m))
         (λ v inside monic. record { vector = inside.vector; monic = monic }) rows g.inside g.monic
 
-    -- a column that the lead of a row divides is the lead of a multiple of the row
+    -- the multiple of a row whose lead divides the place of a term, and which begins with this term
+    pub multiple_in_graph : (d : ℤ) (t : Term Place) → IsNonzeroResidue p t
+        → IsTermOfDegree m.ring.weights (graph_degrees m) d t → IsInVariables n t.at.monomial
+        → (i : ℕ) → i < length rows → PlaceDivides (lead_at rows i) t.at
+        → InGraph n m d (t ∷ step_tail m.ring rows i t)
+    multiple_in_graph d t residue term over i within divides =
+        subst (InGraph n m d) (multiple_at m.ring (graph_degrees m) rows graph_monic prime i within t residue divides)
+        (InGraph-combination rows g.inside g.variables d (step rows i t ∷ [])
+        (IsTermOfDegree-step m.ring (graph_degrees m) rows graph_monic i within d t divides term, tt)
+        (IsInVariables-quotient n t.at.monomial (lead_at rows i).monomial over, tt))
+
+    -- so a column that a lead divides is a lead
     divided_lead : (d : ℤ) (k : Place) → IsColumn m.ring.weights n (graph_degrees m) d k → is_divided rows k ≡ true
         → HasGraphLead d k
     divided_lead d k column divided =
         let found = is_divided-position rows k divided in
-        let i : ℕ = found.0 in
         let t : Term Place = record { at = k; coefficient = 1 } in
-        let whole : row_combination m.ring rows (step rows i t ∷ []) ≡ t ∷ step_tail m.ring rows i t =
-        multiple_at m.ring (graph_degrees m) rows graph_monic prime i found.1 t (omega arith, prime.prime.above_one) found.2 in
-        graph_lead d t (step_tail m.ring rows i t)
-        (subst (InGraph n m d) whole
-        (InGraph-combination rows g.inside g.variables d (step rows i t ∷ [])
-        (IsTermOfDegree-step m.ring (graph_degrees m) rows graph_monic i found.1 d t found.2 (column.generator, column.degree), tt)
-        (IsInVariables-quotient n k.monomial (lead_at rows i).monomial column.variables, tt)))
+        graph_lead d t (step_tail m.ring rows found.0 t)
+        (multiple_in_graph d t (omega arith, prime.prime.above_one) (column.generator, column.degree) column.variables found.0 found.1 found.2)
 
     pub no_more_leads : (d : ℤ) (ks : List Place) → AreGraphColumns n m d ks
         → count_divided rows ks ≤ count_sources m ks
