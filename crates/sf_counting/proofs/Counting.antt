@@ -4,3 +4,4 @@ pub mod Filters
 pub mod Coefficients
 pub mod GraphLeads
 pub mod FullDegrees
+pub mod CountedBases

@@ -1,6 +1,6 @@
 -- Counting decides whether rows of a graph are its reduced basis. (This project's own; Buchberger's criterion with the
 -- dimension of the graph in each degree: Cox, Little, O'Shea, "Using Algebraic Geometry", chapter 6, section 4, counts so.)
-use Rattle.std.specs.Prelude.{◌≡◌, ℕ, ◌≤◌, List, ◌∷◌, ◌++◌, ℤ, ◌<ℤ◌, IsFalse}
+use Rattle.std.specs.Prelude.{ℕ, ◌≤◌, List, ◌∷◌, ◌++◌, ℤ, ◌<ℤ◌, IsFalse}
 use Rattle.std.specs.List.{AllByRecursion}
 use Rattle.sf_algebra.specs.Matrices.{Matrix, IsMatrix}
 use Rattle.sf_algebra.specs.Rings.{IsOverField}

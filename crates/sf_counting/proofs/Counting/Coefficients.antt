@@ -1,5 +1,5 @@
 -- Coefficients of canonical lists: at the lead, at a term, and of sums with a multiple by a constant.
-use Rattle.std.proofs.Common.{◌≡◌, inl, inr, ℕ, ◌%◌, ◌<◌, if◌then◌else◌, Bool, true, false, List, [], ◌∷◌, refl, sym, ◌∙◌, ap, subst, arith}
+use Rattle.std.proofs.Common.{◌≡◌, inl, inr, ℕ, ◌%◌, ◌<◌, if◌then◌else◌, Bool, true, false, List, [], ◌∷◌, sym, ◌∙◌, ap, subst}
 use Rattle.std.proofs.Math.Nat.{mod-lt, zero-mod}
 use Rattle.std.specs.declared.cmp.Ordering.TheVariants.{Less, Greater}
 use Rattle.std.specs.Ordering.{is_eq, ordering_reverse}

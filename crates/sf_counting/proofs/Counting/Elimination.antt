@@ -1,6 +1,6 @@
 -- Elimination: vectors that are zero everywhere where they are zero at given places have no more leads than these places
 -- are. Vectors are whatever has a value modulo a prime at each place; a lead is the greatest place of a nonzero value.
-use Rattle.std.proofs.Common.{◌≡◌, ◌⊎◌, inl, inr, ℕ, suc, ◌<◌, ◌≤◌, ◌%◌, List, [], ◌∷◌, length, refl, sym, ◌∙◌, ap, arith}
+use Rattle.std.proofs.Common.{◌≡◌, ◌⊎◌, inl, inr, ℕ, suc, ◌<◌, ◌≤◌, List, [], ◌∷◌, length, refl, ◌∙◌, ap, arith}
 use Rattle.std.proofs.Math.Nat.{mod-eq_of_lt}
 use Rattle.std.proofs.lemmas.Bool.{cases_eq}
 use Rattle.std.specs.declared.cmp.Ordering.TheVariants.{Less}
@@ -11,7 +11,6 @@ use Rattle.sf_algebra.specs.Rings.{Weights}
 use Rattle.sf_algebra.specs.Vectors.{Place, place_cmp}
 use Rattle.sf_algebra.proofs.Arithmetic.Inverses.{inverse_exists}
 use Rattle.sf_algebra.proofs.Arithmetic.Residues.{negative_mod-below, product_mod-assoc, product_mod-comm, product_mod-one, product_mod-zero, sum_mod-negative, sum_mod-zero}
-use Rattle.sf_algebra.proofs.Basics.Lists.{AllByRecursion-weaken}
 use Rattle.sf_algebra.proofs.Monomials.Orders.{place_cmp_total}
 use Rattle.sf_variables.specs.Columns.{AreFalling}
 

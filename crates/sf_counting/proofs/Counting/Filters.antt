@@ -1,7 +1,6 @@
 -- How many items of a list pass a test; those of a falling list still fall.
 use Rattle.std.proofs.Common.{◌≡◌, inl, inr, ℕ, zero, suc, ◌+◌, ◌<◌, ◌≤◌, cond, Bool, true, false, ◌||◌, List, [], ◌∷◌, ◌++◌, length, filter, slice_index_or, Contains, refl, sym, ◌∙◌, ap, subst, arith}
 use Rattle.std.proofs.lemmas.List.Folds.{list_any-append}
-use Rattle.std.specs.List.{AllByRecursion}
 use Rattle.sf_algebra.specs.Rings.{Weights}
 use Rattle.sf_algebra.specs.Vectors.{Place, Vector}
 use Rattle.sf_algebra.proofs.Basics.Filters.{AllByRecursion-filter_keeps, cond_cases}

@@ -1,12 +1,11 @@
 -- Leads of the graph in one degree, over n variables: vectors of the graph are zero where their coefficients are, so that
 -- there are no more leads than places of coefficients, and rows that divide as many places divide each lead.
-use Rattle.std.proofs.Common.{◌≡◌, ◌⊎◌, inl, inr, ℕ, ◌<◌, ◌≤◌, if◌then◌else◌, nat_le, Bool, true, false, ◌||◌, List, [], ◌∷◌, length, filter, refl, sym, ◌∙◌, ap, subst, arith, ℤ, pos, ◌+ℤ◌}
+use Rattle.std.proofs.Common.{◌≡◌, inl, inr, ℕ, ◌<◌, ◌≤◌, Bool, true, ◌||◌, List, [], ◌∷◌, length, filter, refl, sym, ◌∙◌, ap, subst, arith, ℤ}
 use Rattle.std.proofs.Math.Nat.{mod-eq_of_lt}
 use Rattle.std.proofs.lemmas.Bool.{cases_Bool, cases_lt, le-leb, or_cases}
 use Rattle.std.proofs.lemmas.Cmp.{tied_itself}
 use Rattle.std.proofs.lemmas.Int.{ints}
 use Rattle.std.specs.Cmp.{Equal-is}
-use Rattle.std.specs.declared.cmp.Ordering.TheVariants.{Less}
 use Rattle.std.specs.List.{AllByRecursion}
 use Rattle.std.specs.Ordering.{is_eq}
 use Rattle.sf_algebra.specs.Matrices.{Matrix, IsMatrix, degrees_of}
@@ -18,6 +17,7 @@ use Rattle.sf_algebra.specs.Terms.{Term, IsNonzeroResidue}
 use Rattle.sf_algebra.specs.VectorOperations.{row_multiple, row_sum}
 use Rattle.sf_algebra.specs.Vectors.{Place, Vector, IsHomogeneous, IsTermOfDegree, place_cmp}
 use Rattle.sf_algebra.proofs.Arithmetic.Residues.{product_mod-comm, product_mod-one}
+use Rattle.sf_algebra.proofs.Basics.Filters.{AllByRecursion-filter, AllByRecursion-filter_keeps}
 use Rattle.sf_algebra.proofs.GradedMatrices.PartTerms.{part_terms-outside}
 use Rattle.sf_algebra.proofs.Monomials.Orders.{place_cmp-Equal, place_cmp_linear, place_cmp_total}
 use Rattle.sf_algebra.proofs.Monomials.Weights.{field_ring}
@@ -25,28 +25,25 @@ use Rattle.sf_algebra.proofs.Terms.Coefficients.{coefficient_at-head}
 use Rattle.sf_algebra.proofs.Terms.Totals.{total-nil}
 use Rattle.sf_algebra.proofs.Vectors.HomogeneousVectors.{IsVector-nil}
 use Rattle.sf_algebra.proofs.Vectors.Rows.{row_combination-cons, row_combination-nil, row_combination-one}
-use Rattle.sf_groebner.specs.BasisParts.{coefficient_part}
 use Rattle.sf_groebner.specs.Criterion.{lead_at}
 use Rattle.sf_groebner.specs.Divisions.{step, step_tail}
 use Rattle.sf_groebner.specs.Leads.{PlaceDivides}
 use Rattle.sf_groebner.specs.ReducedBases.{HasDividedLead, IsMonic, is_divided}
 use Rattle.sf_groebner.specs.Spans.{IsGraphVector, coefficient_terms, graph_degrees}
 use Rattle.sf_groebner.proofs.Basics.Items.{AllByRecursion-both, AllByRecursion-from_items, AllByRecursion-item, IsItem, IsItem-filter}
-use Rattle.sf_algebra.proofs.Basics.Filters.{AllByRecursion-filter, AllByRecursion-filter_keeps}
-use Rattle.sf_algebra.proofs.Basics.Lists.{AllByRecursion-weaken}
 use Rattle.sf_groebner.proofs.Constructions.MonicVectors.{IsMonicVector, IsTermOfDegree-step, is_divided-position, multiple_at}
 use Rattle.sf_groebner.proofs.PairTheorems.Multiplied.{constant_term}
 use Rattle.sf_groebner.proofs.PartsOfBases.GraphVectors.{graph_vector-unique}
 use Rattle.sf_groebner.proofs.Spanning.GraphGenerators.{graph_submodule}
 use Rattle.sf_groebner.proofs.Spanning.Submodules.{IsSubmodule}
-use Rattle.sf_variables.specs.Columns.{AreColumns, AreFalling, IsColumn}
+use Rattle.sf_variables.specs.Columns.{IsColumn}
 use Rattle.sf_variables.specs.Variables.{AreInVariables, IsInVariables, IsRowInVariables}
 use Rattle.sf_variables.proofs.Keeping.Monomials.{IsInVariables-one, IsInVariables-quotient}
 use Rattle.sf_variables.proofs.Keeping.Rows.{IsRowInVariables-combination}
 use Rattle.sf_counting.specs.CountLaws.{AreGraphRows}
 use Rattle.sf_counting.specs.Counts.{AreGraphColumns, IsFull, count_divided, count_sources, is_source}
 use Rattle.sf_counting.proofs.Counting.Coefficients.{coefficient, coefficient-above, coefficient-below, coefficient-constant, coefficient-item, coefficient-sum}
-use Rattle.sf_counting.proofs.Counting.Elimination.{HasLead, IsClosed, IsLead, count_leads}
+use Rattle.sf_counting.proofs.Counting.Elimination.{HasLead, IsClosed, count_leads}
 use Rattle.sf_counting.proofs.Counting.Filters.{AreFalling-filter, IsItem-Contains, length-filter_lt}
 
 -- terms of degree d are a vector of the graph, over n variables
