@@ -70,15 +70,17 @@ module _ (n : ℕ) (m : Matrix) (prime : IsOverField m.ring) (matrix : IsMatrix 
         let whole : Vector = record { degree = v.degree; terms = row_combination m.ring generators k.coefficients } in
         let c =
         IsCombination-through m.ring positive rows generators v.degree k.coefficients k.homogeneous
-        (AllByRecursion-weaken (IsTermOfDegree m.ring.weights (degrees_of generators) v.degree) (λ (t : Term Place). IsCombination m.ring rows (row_vector generators t.at.position)) reached_at k.coefficients k.homogeneous) in
+        (AllByRecursion-weaken _ (λ (t : Term Place). IsCombination m.ring rows (row_vector generators t.at.position)) reached_at k.coefficients k.homogeneous) in
         let w : InSpan q whole = InSpan-IsCombination q positive whole c in
         let degree : w.coefficients.degree ≡ v.degree = ap (λ (x : Vector). x.degree) w.value in
         let terms : row_combination m.ring rows w.coefficients.terms ≡ v.terms =
         ap (λ (x : Vector). x.terms) w.value ∙ k.value in
+        let monic : AllByRecursion (IsMonicRow m.ring) rows =
+        AllByRecursion-both (IsGraphVector m) (λ (x : Vector). IsMonic x.terms) (IsMonicRow m.ring)
+        (λ x inside one. record { canonical = inside.vector.canonical; monic = one }) rows g.inside g.monic in
         subst (HasDividedLead rows) terms
         (buchberger_up_to q (AllByRecursion-weaken (IsGraphVector m) _ (λ x inside. inside.vector) rows g.inside)
-        (AllByRecursion-both (IsGraphVector m) (λ (x : Vector). IsMonic x.terms) (IsMonicRow m.ring) (λ x inside monic. record { canonical = inside.vector.canonical; monic = monic }) rows g.inside g.monic)
-        positive v.degree
+        monic positive v.degree
         (λ i j earlier later positions bound.
         let pair : IsPair rows i j = record { earlier = earlier; later = later; positions = positions } in
         ReducesToZero-full n m prime matrix rows g i j pair (full.pairs i j pair (interest _ bound)))

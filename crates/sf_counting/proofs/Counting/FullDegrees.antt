@@ -1,6 +1,6 @@
 -- In a degree in which rows are full each vector of the graph over n variables is divided by the rows without a rest: so
 -- it is a combination of them, and a pair of this degree reduces to zero.
-use Rattle.std.proofs.Common.{ℕ, ◌<◌, List, [], ◌∷◌, length, refl, sym, ◌∙◌, subst, arith, ℤ}
+use Rattle.std.proofs.Common.{ℕ, ◌<◌, List, [], ◌∷◌, ◌++◌, length, refl, sym, ◌∙◌, subst, arith, ℤ}
 use Rattle.sf_algebra.specs.Divisibility.{lcm}
 use Rattle.sf_algebra.specs.Matrices.{Matrix, IsMatrix}
 use Rattle.sf_algebra.specs.MatrixOperations.{row_at, row_combination}
@@ -16,6 +16,7 @@ use Rattle.sf_algebra.proofs.Vectors.Rows.{IsCanonical-row_combination}
 use Rattle.sf_groebner.specs.Criterion.{IsPair, ReducesToZero, lead_at, lead_place, pair_place, s_coefficients, s_vector}
 use Rattle.sf_groebner.specs.Divisions.{AreBelow, IsDivided, left_over, step, step_tail}
 use Rattle.sf_groebner.specs.Leads.{PlaceDivides}
+use Rattle.sf_groebner.specs.ReducedBases.{is_divided}
 use Rattle.sf_groebner.specs.Spans.{IsGraphVector, graph_degrees}
 use Rattle.sf_groebner.proofs.Basics.Accessible.{IsBelow}
 use Rattle.sf_groebner.proofs.Constructions.Divisions.{divided_hit, divided_none, left_over-below}
@@ -29,7 +30,15 @@ use Rattle.sf_variables.proofs.Keeping.Monomials.{IsInVariables-lcm, IsInVariabl
 use Rattle.sf_variables.proofs.Keeping.Rows.{IsRowInVariables-negative, IsRowInVariables-sum}
 use Rattle.sf_counting.specs.CountLaws.{AreGraphRows, pair_degree}
 use Rattle.sf_counting.specs.Counts.{IsFull}
+use Rattle.sf_counting.proofs.Counting.Filters.{is_divided-more, length-filter_le}
 use Rattle.sf_counting.proofs.Counting.GraphLeads.{InGraph, InGraph-combination, complete_where_full, graph_is_submodule, graph_monic, multiple_in_graph}
+
+-- rows that are full stay so with more rows
+pub IsFull-more : (n : ℕ) (m : Matrix) (rows more : List Vector) (d : ℤ) → IsFull n m rows d
+    → IsFull n m (rows ++ more) d
+IsFull-more n m rows more d full =
+    let grows = length-filter_le (is_divided rows) (is_divided (rows ++ more)) (is_divided-more rows more) full.columns in
+    record { columns = full.columns; places = full.places; enough = omega (arith, full.enough, grows) }
 
 lead_place-variables : (n : ℕ) (ts : List (Term Place)) → IsRowInVariables n ts
     → IsInVariables n (lead_place ts).monomial

@@ -1,7 +1,5 @@
-use Rattle.std.proofs.Common.{◌++◌, arith}
-use Rattle.sf_groebner.specs.ReducedBases.{is_divided}
 use Rattle.sf_counting.proofs.Counting.CountedBases.{counted_basis, needed_past_full}
-use Rattle.sf_counting.proofs.Counting.Filters.{is_divided-more, length-filter_le}
+use Rattle.sf_counting.proofs.Counting.FullDegrees.{IsFull-more}
 use Rattle.sf_counting.proofs.Counting.GraphLeads.{complete_where_full, no_more_leads}
 use Rattle.sf_counting.proofs.count.counts_decide_bases.Goals as goal
 
@@ -11,7 +9,5 @@ returns c = record {
   leads = λ n m prime matrix over. no_more_leads n m prime matrix;
   complete = λ n m prime matrix over rows g v full inside variables. complete_where_full n m prime matrix rows g v.degree full v.terms (inside, variables);
   needed = needed_past_full;
-  more = λ n m rows more d full.
-      let grows = length-filter_le (is_divided rows) (is_divided (rows ++ more)) (is_divided-more rows more) full.columns in
-      record { columns = full.columns; places = full.places; enough = omega (arith, full.enough, grows) };
+  more = IsFull-more;
 }
