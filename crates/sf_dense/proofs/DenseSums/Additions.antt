@@ -1,6 +1,6 @@
 -- Entries added to sums: the vector that the sums stand for grows by a multiple of the one that the entries stand for.
 -- Neither an order of the places nor bounds of the sums are asked for.
-use Rattle.std.proofs.Common.{◌≡◌, ℕ, zero, suc, ◌+◌, ◌*◌, ◌%◌, ◌<◌, List, [], ◌∷◌, ◌++◌, length, map, get_or, set, sym, ◌∙◌, ap, arith}
+use Rattle.std.proofs.Common.{◌≡◌, ℕ, zero, suc, ◌+◌, ◌*◌, ◌%◌, ◌<◌, List, [], ◌∷◌, ◌++◌, length, map, refl, get_or, set, sym, ◌∙◌, ap, arith}
 use Rattle.std.specs.Prelude.{replicate}
 use Rattle.sf_algebra.specs.Multiples.{place_product, term_product, multiple}
 use Rattle.sf_algebra.specs.Residues.{sum_mod, product_mod}
@@ -146,3 +146,9 @@ module _ (p : ℕ) (positive : 0 < p) where
   dense-zero ks n =
       normal-SameTotals (place_cmp ones) (place_cmp_linear ones) p positive (SameTotals-zeros p ks n)
       ∙ normal-nil (place_cmp ones) p
+
+-- the number of sums stays
+pub length-added : (a : ℕ) (cs : List ℕ) (es : List Entry) → length (added a cs es) ≡ length cs
+unfolding added
+length-added a cs [] = refl
+length-added a cs (e ∷ es) = length-added a (set cs e.cell (get_or cs e.cell 0 + a * e.coefficient)) es ∙ length-set cs e.cell _

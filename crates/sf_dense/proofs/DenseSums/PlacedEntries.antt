@@ -24,7 +24,7 @@ use Rattle.sf_dense.specs.Walks.{times_monomial}
 place_cmp-irreflexive : (k : Place) → place_cmp ones k k ≡ Less → ⊥
 place_cmp-irreflexive k less = let equal : place_cmp ones k k ≡ Equal = tied_itself (place_cmp_linear ones).total k in cc
 
-AllByRecursion-column : (P : Place → Type 0) (ks : List Place) (i : ℕ) → AllByRecursion P ks → i < length ks
+pub AllByRecursion-column : (P : Place → Type 0) (ks : List Place) (i : ℕ) → AllByRecursion P ks → i < length ks
     → P (column_at ks i)
 AllByRecursion-column P [] i each within = absurd (omega arith)
 AllByRecursion-column P (k ∷ ks) zero each within = each.0
