@@ -31,7 +31,8 @@ module _ {K : Type 0} (p : ℕ) where
   unfolding sum_mod
   SameTotals-split k m n us = record {
     totals = λ g additive.
-        let whole : g (record { at = k; coefficient = m + n }) % p ≡ sum_mod p (g (record { at = k; coefficient = n })) (g (record { at = k; coefficient = m })) =
+        let whole : g (record { at = k; coefficient = m + n }) % p
+        ≡ sum_mod p (g (record { at = k; coefficient = n })) (g (record { at = k; coefficient = m })) =
         sym (additive-reduced p g additive k (m + n)) ∙ additive.at_sum k m n ∙ sum_mod-comm p _ _ in
         total-cons p g _ us
         ∙ sym (sum_mod-first p _ _)
@@ -112,7 +113,8 @@ module _ (p : ℕ) where
     totals = λ g additive.
         total-cons p g _ (raised_terms ks a es)
         ∙ sym (sum_mod-first p _ _)
-        ∙ (λ i. sum_mod p (additive-raised g additive a (column_at ks e.cell) e.coefficient i) ((SameTotals-raised ks a es).totals g additive i))
+        ∙ (λ i. sum_mod p (additive-raised g additive a (column_at ks e.cell) e.coefficient i) ((SameTotals-raised ks
+        a es).totals g additive i))
         ∙ sum_mod-first p _ _
         ∙ sym (total-cons p g _ _);
   }
@@ -151,4 +153,5 @@ module _ (p : ℕ) (positive : 0 < p) where
 pub length-added : (a : ℕ) (cs : List ℕ) (es : List Entry) → length (added a cs es) ≡ length cs
 unfolding added
 length-added a cs [] = refl
-length-added a cs (e ∷ es) = length-added a (set cs e.cell (get_or cs e.cell 0 + a * e.coefficient)) es ∙ length-set cs e.cell _
+length-added a cs (e ∷ es) = length-added a (set cs e.cell (get_or cs e.cell 0 + a * e.coefficient)) es
+    ∙ length-set cs e.cell _

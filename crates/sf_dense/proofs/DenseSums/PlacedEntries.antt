@@ -47,11 +47,13 @@ module _ (ks : List Place) (falling : AreFalling ones ks) where
     | inl before ↦ before
     | inr behind ↦ elim (cases_eq j i) [
       | inl same ↦
-          absurd (place_cmp-irreflexive (column_at ks i) (subst (λ n. place_cmp ones (column_at ks n) (column_at ks i) ≡ Less) same less))
+          absurd (place_cmp-irreflexive (column_at ks i) (subst (λ n. place_cmp ones (column_at ks n) (column_at ks
+          i) ≡ Less) same less))
       | inr apart ↦
           let greater : place_cmp ones (column_at ks i) (column_at ks j) ≡ Less =
           column_at-falling ks j i falling (omega arith) within in
-          absurd (place_cmp-irreflexive (column_at ks i) ((place_cmp_linear ones).total.trans (column_at ks i) (column_at ks j) (column_at ks i) greater less))
+          absurd (place_cmp-irreflexive (column_at ks i) ((place_cmp_linear ones).total.trans (column_at ks i)
+          (column_at ks j) (column_at ks i) greater less))
     ]
   ]
 
@@ -61,9 +63,11 @@ module _ (ks : List Place) (falling : AreFalling ones ks) where
     | inl here ↦ here
     | inr apart ↦ elim (cases_lt i j) [
       | inl before ↦
-          absurd (place_cmp-irreflexive (column_at ks j) (subst (λ k. place_cmp ones (column_at ks j) k ≡ Less) same (column_at-falling ks i j falling before within_j)))
+          absurd (place_cmp-irreflexive (column_at ks j) (subst (λ k. place_cmp ones (column_at ks j) k
+          ≡ Less) same (column_at-falling ks i j falling before within_j)))
       | inr behind ↦
-          absurd (place_cmp-irreflexive (column_at ks j) (subst (λ k. place_cmp ones k (column_at ks j) ≡ Less) same (column_at-falling ks j i falling (omega arith) within_i)))
+          absurd (place_cmp-irreflexive (column_at ks j) (subst (λ k. place_cmp ones k (column_at ks j)
+          ≡ Less) same (column_at-falling ks j i falling (omega arith) within_i)))
     ]
   ]
 

@@ -46,7 +46,8 @@ module _ (p : ℕ) where
       put_entry-each (IsResidueEntry p (front ++ c ∷ cs)) i (c % p) (residue_entries p (suc i) cs)
       (λ nonzero. record {
         cell = omega (arith, length-append front (c ∷ cs));
-        coefficient = ap (λ n. n % p) (sym (get_or-append_seam front c cs 0) ∙ ap (λ n. get_or (front ++ c ∷ cs) n 0) (sym here));
+        coefficient = ap (λ n. n % p) (sym (get_or-append_seam front c cs 0)
+            ∙ ap (λ n. get_or (front ++ c ∷ cs) n 0) (sym here));
         nonzero = nonzero;
       })
       (subst (λ whole. AllByRecursion (IsResidueEntry p whole) (residue_entries p (suc i) cs))
@@ -62,7 +63,8 @@ module _ (p : ℕ) where
   put_entry-rising i zero es above rising = rising
   put_entry-rising i (suc c) es above rising = (above, rising)
 
-  residue_entries-from : (i j : ℕ) (cs : List ℕ) → i ≤ j → AllByRecursion (λ (e : Entry). i ≤ e.cell) (residue_entries p j cs)
+  residue_entries-from : (i j : ℕ) (cs : List ℕ) → i ≤ j
+      → AllByRecursion (λ (e : Entry). i ≤ e.cell) (residue_entries p j cs)
   unfolding residue_entries
   residue_entries-from i j [] from = tt
   residue_entries-from i j (c ∷ cs) from =
@@ -101,7 +103,8 @@ pub placed-scaled : (p x : ℕ) (ks : List Place) (es : List Entry)
     → placed ks (map (scaled_entry p x) es) ≡ map (term_product place_product p (constant_term x)) (placed ks es)
 placed-scaled p x ks [] = refl
 placed-scaled p x ks (e ∷ es) =
-    let at : column_at ks e.cell ≡ place_product one (column_at ks e.cell) = sym (place_product-one (column_at ks e.cell)) in
+    let at : column_at ks e.cell ≡ place_product one (column_at ks e.cell) = sym (place_product-one (column_at ks
+    e.cell)) in
     λ i. record { at = at i; coefficient = product_mod p x e.coefficient } ∷ placed-scaled p x ks es i
 
 -- where each sum is 0 modulo p, and only there, the vector is 0
@@ -132,7 +135,8 @@ module _ (p : ℕ) (prime : IsPrime p) (ks : List Place) (cs : List ℕ) (es : L
   placed-monic_entries =
       ap (placed ks) (read.entries ∙ ap (map (scaled_entry p read.inverse)) (sym read.residues))
       ∙ placed-scaled p read.inverse ks (residue_entries p 0 cs)
-      ∙ ap (map (term_product place_product p (constant_term read.inverse))) (sym (dense-residues p positive ks cs falling same))
+      ∙ ap (map (term_product place_product p (constant_term read.inverse))) (sym (dense-residues p positive ks cs
+      falling same))
       ∙ sym (multiple-map (place_keys ones) p (constant_term read.inverse) prime
       (inverse_nonzero p read.first.coefficient read.inverse read.product, read.residue)
       (dense p ks cs)
@@ -145,7 +149,8 @@ module _ (p : ℕ) (prime : IsPrime p) (ks : List Place) (cs : List ℕ) (es : L
 
   pub IsMonic-monic_entries : IsMonic (placed ks es)
   IsMonic-monic_entries =
-      subst (λ l. IsMonic (placed ks l)) (sym read.entries) (product_mod-comm p read.inverse read.first.coefficient ∙ read.product)
+      subst (λ l. IsMonic (placed ks l)) (sym read.entries) (product_mod-comm p read.inverse read.first.coefficient
+      ∙ read.product)
 
 -- facts of entries that are read off
 module _ (p : ℕ) (cs : List ℕ) (es : List Entry) (read : AreMonicEntries p cs es) where
@@ -164,4 +169,8 @@ module _ (p : ℕ) (cs : List ℕ) (es : List Entry) (read : AreMonicEntries p c
       → ((i : ℕ) → i < length cs → 0 < get_or cs i 0 % p → P (column_at ks i)) → EachPlace P (placed ks es)
   EachPlace-monic_entries ks P f =
       AllByRecursion-map (λ (t : Term Place). P t.at) _ es
-      (monic_entries-scaled (λ (e : Entry). P (column_at ks e.cell)) (λ e entry. f e.cell entry.cell (omega (arith, entry.nonzero, entry.coefficient))))
+      (monic_entries-scaled (λ (e : Entry). P (column_at ks e.cell)) (λ e entry. f e.cell entry.cell (omega (
+        arith,
+        entry.nonzero,
+        entry.coefficient,
+      ))))

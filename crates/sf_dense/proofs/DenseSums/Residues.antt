@@ -53,7 +53,8 @@ module _ (p : ℕ) where
     totals = λ g additive.
         total-cons p g _ (cell_terms ks cs)
         ∙ sym (sum_mod-first p _ _)
-        ∙ (λ i. sum_mod p (sym (additive-reduced p g additive k c) i) ((SameTotals-residue_terms ks cs).totals g additive i))
+        ∙ (λ i. sum_mod p (sym (additive-reduced p g additive k c) i) ((SameTotals-residue_terms ks cs).totals g
+        additive i))
         ∙ sum_mod-first p _ _
         ∙ sym (total-put p g additive k (c % p) (residue_terms p ks cs));
   }

@@ -80,11 +80,13 @@ module _ (p x : ℕ) (cs : List ℕ) where
   pub monic-begun : (e : Entry)
       → residue_entries p 0 cs ≡ e ∷ residue_entries p (e.cell + 1) (drop (e.cell + 1) cs)
       → product_mod p e.coefficient x ≡ 1
-      → record { cell = e.cell; coefficient = 1 } ∷ map (scaled_entry p x) (residue_entries p (e.cell + 1) (drop (e.cell + 1) cs))
+      → record { cell = e.cell; coefficient = 1 } ∷ map (scaled_entry p x) (residue_entries p (e.cell + 1) (drop
+      (e.cell + 1) cs))
       ≡ map (scaled_entry p x) (residue_entries p 0 cs)
   monic-begun e first inverse =
       let one : 1 ≡ product_mod p x e.coefficient = sym inverse ∙ product_mod-comm p e.coefficient x in
-      (λ i. record { cell = e.cell; coefficient = one i } ∷ map (scaled_entry p x) (residue_entries p (e.cell + 1) (drop (e.cell + 1) cs)))
+      (λ i. record { cell = e.cell; coefficient = one i } ∷ map (scaled_entry p x) (residue_entries p (e.cell + 1)
+      (drop (e.cell + 1) cs)))
       ∙ ap (map (scaled_entry p x)) (sym first)
 
   module _ (front whole : List Entry) (i : ℕ)

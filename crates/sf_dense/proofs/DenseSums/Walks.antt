@@ -40,7 +40,8 @@ module _ (ks : List Place) (falling : AreFalling ones ks) (i j : ℕ) (within_i 
   pub column_at-greater : Greater ≡ place_cmp ones k l → i < j
   column_at-greater greater =
       column_at-after ks falling i j within_i
-      ((λ n. place_cmp ones (stands n) (at n)) ∙ (place_cmp_linear ones).total.antisymm l k ∙ ap ordering_reverse (sym greater))
+      ((λ n. place_cmp ones (stands n) (at n)) ∙ (place_cmp_linear ones).total.antisymm l k
+      ∙ ap ordering_reverse (sym greater))
 
 -- the places of the terms behind t aren't passed with that of t
 pub ahead-next : (ks : List Place) (a : Monomial) (ts : List (Term Place)) (n : ℕ) (t : Term Place) (cell : ℕ)
@@ -50,12 +51,14 @@ ahead-next ks a ts n t cell falling descending within item inside place = rw (ad
   where
     passed : (u : Term Place) → place_cmp ones u.at t.at ≡ Less → IsFrom ks a (cell + 1) u
     passed u less i within_i stands =
-        let after : cell < i = column_at-after ks falling cell i inside ((λ j. place_cmp ones (stands j) (place j)) ∙ place_cmp-place_product ones a u.at t.at ∙ less) in
+        let after : cell < i = column_at-after ks falling cell i inside ((λ j. place_cmp ones (stands j) (place j))
+        ∙ place_cmp-place_product ones a u.at t.at ∙ less) in
         omega arith
 
     from : (us : List (Term Place)) (m : ℕ) → IsDescending (place_cmp ones) us → m < length us → t ≡ get_or us m t
         → AllByRecursion (IsFrom ks a (cell + 1)) (drop (suc m) us)
     from [] m descending within item = absurd (omega arith)
     from (u ∷ us) zero descending within item =
-        AllByRecursion-weaken _ _ (λ v less. passed v (subst (λ w. place_cmp ones v.at w.at ≡ Less) (sym item) less)) us descending.0
+        AllByRecursion-weaken _ _ (λ v less. passed v (subst (λ w. place_cmp ones v.at w.at
+        ≡ Less) (sym item) less)) us descending.0
     from (u ∷ us) (suc m) descending within item = from us m descending.1 (omega arith) item

@@ -13,11 +13,19 @@ loop-entry-preserved c =
     product-room c.args.factor e.coefficient (omega arith) (omega arith) in
     elim c.if-cell-sums.branch [
       | then-cell-sums w ↦ record {
-        added = rw w.sums-is (sym (added-next c.args.factor c.loop-entry.sums c.args.entries.now c.loop-entry.entry-index e c.loop-entry-test.true item) ∙ c.loop-entry.invariant.added);
-        raised = λ k. rw w.sums-is (omega (arith, set-raised c.loop-entry.sums e.cell (c.args.factor * e.coefficient) k, c.loop-entry.invariant.raised k));
+        added = rw w.sums-is (sym (added-next c.args.factor c.loop-entry.sums c.args.entries.now
+            c.loop-entry.entry-index e c.loop-entry-test.true item) ∙ c.loop-entry.invariant.added);
+        raised = λ k. rw w.sums-is (omega (
+          arith,
+          set-raised c.loop-entry.sums e.cell (c.args.factor * e.coefficient)
+              k,
+          c.loop-entry.invariant.raised k,
+        ));
       }
       | else-cell-sums w ↦ record {
-        added = rw w.sums-is (sym (added-past c.args.factor c.loop-entry.sums c.args.entries.now c.loop-entry.entry-index e c.loop-entry-test.true item w.if-cell-sums.false) ∙ c.loop-entry.invariant.added);
+        added = rw w.sums-is (sym (added-past c.args.factor c.loop-entry.sums c.args.entries.now
+            c.loop-entry.entry-index e c.loop-entry-test.true item w.if-cell-sums.false)
+            ∙ c.loop-entry.invariant.added);
         raised = λ k. rw w.sums-is (omega (arith, c.loop-entry.invariant.raised k));
       }
     ]

@@ -13,14 +13,19 @@ loop-cell-init c =
     let e : Entry = record { cell = c.first.inside.cell; coefficient = c.first.inside.coefficient } in
     let P : Entry → Type 0 = λ v. residue_entries p 0 cs ≡ v ∷ residue_entries p (v.cell + 1) (drop (v.cell + 1) cs) in
     let first : P e = subst P (sym c.first.view_is) c.requires.first in
-    rw c.in_ok-push.ensures.items (rw c.new-entries.ensures.items (monic-begun p c.inv-inverse.result cs e first c.inv-inverse.ensures.inverse))
+    rw c.in_ok-push.ensures.items (rw c.new-entries.ensures.items (monic-begun p c.inv-inverse.result cs e first
+    c.inv-inverse.ensures.inverse))
 
 pub loop-cell-preserved : goal.loop-cell-preserved
 loop-cell-preserved c = elim c.if-residue-ne0.branch [
   | then-residue-ne0+in_ok-push-2 w ↦
-      rw (w.entries-is, w.in_ok-push-2.ensures.items, w.mul.ensures.product) (monic-next c.args.modulus c.inv-inverse.result c.args.sums.now _ _ c.loop-cell.cell c.loop-cell.invariant c.residue-residue.result c.loop-cell-test.true c.residue-residue.ensures.residue w.if-residue-ne0.true)
+      rw (w.entries-is, w.in_ok-push-2.ensures.items, w.mul.ensures.product) (monic-next c.args.modulus
+      c.inv-inverse.result c.args.sums.now _ _ c.loop-cell.cell c.loop-cell.invariant c.residue-residue.result
+      c.loop-cell-test.true c.residue-residue.ensures.residue w.if-residue-ne0.true)
   | else-residue-ne0 w ↦
-      rw w.entries-is (monic-skipped c.args.modulus c.inv-inverse.result c.args.sums.now _ _ c.loop-cell.cell c.loop-cell.invariant c.residue-residue.result c.loop-cell-test.true c.residue-residue.ensures.residue w.if-residue-ne0.false)
+      rw w.entries-is (monic-skipped c.args.modulus c.inv-inverse.result c.args.sums.now _ _ c.loop-cell.cell
+      c.loop-cell.invariant c.residue-residue.result c.loop-cell-test.true c.residue-residue.ensures.residue
+      w.if-residue-ne0.false)
 ]
 
 pub returns : goal.returns
@@ -31,9 +36,11 @@ returns c = record {
     residues = c.requires.first;
     inverse = c.inv-inverse.result;
     residue = c.inv-inverse.ensures.below;
-    product = ap (λ (v : Entry). product_mod c.args.modulus v.coefficient c.inv-inverse.result) (sym c.first.view_is) ∙ c.inv-inverse.ensures.inverse;
+    product = ap (λ (v : Entry). product_mod c.args.modulus v.coefficient c.inv-inverse.result) (sym c.first.view_is)
+        ∙ c.inv-inverse.ensures.inverse;
     entries =
-        monic-end c.args.modulus c.inv-inverse.result c.args.sums.now _ _ c.loop-cell.cell c.loop-cell.invariant c.loop-cell-test.false
+        monic-end c.args.modulus c.inv-inverse.result c.args.sums.now _ _ c.loop-cell.cell c.loop-cell.invariant
+        c.loop-cell-test.false
         ∙ ap (map (scaled_entry c.args.modulus c.inv-inverse.result)) c.requires.first;
   };
 }

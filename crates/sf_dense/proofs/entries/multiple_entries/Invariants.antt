@@ -14,5 +14,6 @@ abbrev pub invariant-loop-term : goal.invariant-loop-term
 invariant-loop-term l = record {
   entries : placed l.columns l.entries.items ≡ map (times_monomial l.factor) (take l.term-index l.terms);
   within : AreWithin (length l.columns) l.entries.items;
-  ahead : AreFalling ones l.columns → IsDescending (place_cmp ones) l.terms → AllByRecursion (IsFrom l.columns l.factor l.from) (drop l.term-index l.terms);
+  ahead : AreFalling ones l.columns → IsDescending (place_cmp ones) l.terms
+      → AllByRecursion (IsFrom l.columns l.factor l.from) (drop l.term-index l.terms);
 }

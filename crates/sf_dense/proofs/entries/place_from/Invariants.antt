@@ -9,7 +9,8 @@ abbrev pub invariant-loop-low : goal.invariant-loop-low
 invariant-loop-low l = record {
   begun : l.from ≤ l.low;
   within : l.high ≤ length l.columns;
-  found : AreFalling ones l.columns → (i : ℕ) → l.from ≤ i → i < length l.columns → column_at l.columns i ≡ l.place → (l.low ≤ i) × (i < l.high);
+  found : AreFalling ones l.columns → (i : ℕ) → l.from ≤ i → i < length l.columns → column_at l.columns i ≡ l.place
+      → (l.low ≤ i) × (i < l.high);
 }
 
 abbrev pub decreases-loop-low : goal.decreases-loop-low

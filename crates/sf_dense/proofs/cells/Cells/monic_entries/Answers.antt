@@ -11,5 +11,7 @@ returns-in-None-clause-entries c =
 
 pub returns-in_ok-entries-in-Some-clause-within : goal.returns-in_ok-entries-in-Some-clause-within
 returns-in_ok-entries-in-Some-clause-within c =
-    let within = AreWithin-monic_entries c.args.modulus c.deref-in-Some.result.now c.in_ok-entries-in-Some.entries.items c.in_ok-entries-in-Some.ensures.monic in
-    subst (λ (cs : List ℕ). AreWithin (length cs) c.in_ok-entries-in-Some.entries.items) (c.deref-in-Some.ensures.value ∙ c.self.view_is) within
+    let within = AreWithin-monic_entries c.args.modulus c.deref-in-Some.result.now
+    c.in_ok-entries-in-Some.entries.items c.in_ok-entries-in-Some.ensures.monic in
+    subst (λ (cs : List ℕ). AreWithin (length cs) c.in_ok-entries-in-Some.entries.items)
+    (c.deref-in-Some.ensures.value ∙ c.self.view_is) within
