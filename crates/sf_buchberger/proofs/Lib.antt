@@ -14,3 +14,4 @@ mod Starts
 mod InputMoves
 mod PairMoves
 mod Results
+mod DegreeBases

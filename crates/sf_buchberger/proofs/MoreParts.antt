@@ -1,5 +1,5 @@
 -- The parts of the vectors of a graph, one after another.
-use Rattle.std.proofs.Common.{◌≡◌, ◌+◌, not, List, ◌++◌, filter, length, map, refl, ◌∙◌, ap, subst, arith, Bool}
+use Rattle.std.proofs.Common.{◌≡◌, ◌+◌, not, List, [], ◌∷◌, ◌++◌, filter, length, map, refl, sym, ◌∙◌, ap, subst, arith, Bool}
 use Rattle.std.proofs.lemmas.List.{length-map, map-append}
 use Rattle.std.proofs.lemmas.List.Elements.{filter-append}
 use Rattle.sf_algebra.specs.Matrices.{Matrix, row_degrees}
@@ -8,7 +8,9 @@ use Rattle.sf_algebra.proofs.GradedMatrices.PartTerms.{IsVector-part_terms}
 use Rattle.sf_algebra.proofs.GradedMatrices.Ranges.{slice_range-first, slice_range-second}
 use Rattle.sf_groebner.specs.BasisParts.{value_part, coefficient_part, values_of, coefficients_of, syzygies_of}
 use Rattle.sf_groebner.specs.Cuts.{has_first_part}
+use Rattle.sf_groebner.specs.MinimalGenerators.{matrix_of}
 use Rattle.sf_groebner.specs.Spans.{graph_degrees}
+use Rattle.sf_buchberger.specs.GraphBases.{AreParts, with_rows}
 
 module _ (m : Matrix) where
   module _ (w : Vector) (h : IsVector m.ring (graph_degrees m) w) where
@@ -39,3 +41,20 @@ module _ (m : Matrix) where
   pub syzygies_of-append : (vs ws : List Vector) → syzygies_of m (vs ++ ws) ≡ syzygies_of m vs ++ syzygies_of m ws
   syzygies_of-append =
       mapped-append (λ (v : Vector). not (has_first_part (length m.target) v)) (coefficient_part m)
+
+  -- the parts of one more vector
+  pub AreParts-push : (vs : List Vector) (v : Vector) (basis coefficients syzygies : Matrix)
+      → AreParts m vs basis coefficients syzygies → (b c z : Matrix)
+      → b ≡ with_rows basis (values_of m (v ∷ [])) → c ≡ with_rows coefficients (coefficients_of m (v ∷ []))
+      → z ≡ with_rows syzygies (syzygies_of m (v ∷ [])) → AreParts m (vs ++ v ∷ []) b c z
+  AreParts-push vs v basis coefficients syzygies h b c z e f g = record {
+    basis_rows =
+        e ∙ ap (λ x. with_rows x (values_of m (v ∷ []))) h.basis_rows
+        ∙ ap (matrix_of m.ring m.target) (sym (values_of-append vs (v ∷ [])));
+    coefficient_rows =
+        f ∙ ap (λ x. with_rows x (coefficients_of m (v ∷ []))) h.coefficient_rows
+        ∙ ap (matrix_of m.ring (row_degrees m)) (sym (coefficients_of-append vs (v ∷ [])));
+    syzygy_rows =
+        g ∙ ap (λ x. with_rows x (syzygies_of m (v ∷ []))) h.syzygy_rows
+        ∙ ap (matrix_of m.ring (row_degrees m)) (sym (syzygies_of-append vs (v ∷ [])));
+  }

@@ -20,7 +20,7 @@ use Rattle.sf_buchberger.specs.QueuedPairs.{IsQueuedInput, input_numbers, queued
 use Rattle.sf_buchberger.proofs.DoneTables.{AreDone-start}
 
 -- the row that is read, with its degree
-row_vector-read : (rows : List Vector) (k : ℕ) (v : Vector) → slice_get rows k ≡ Some v → row_vector rows k ≡ v
+pub row_vector-read : (rows : List Vector) (k : ℕ) (v : Vector) → slice_get rows k ≡ Some v → row_vector rows k ≡ v
 row_vector-read [] k v read = cc
 row_vector-read (w ∷ ws) zero v read = let same : w ≡ v = cc in same
 row_vector-read (w ∷ ws) (suc k) v read = row_vector-read ws k v read

@@ -7,3 +7,5 @@ pub mod Loops
 pub mod QueuedPairs
 pub mod Turns
 pub mod WholeBases
+pub mod Eliminations
+pub mod CountedRows

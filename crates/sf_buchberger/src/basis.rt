@@ -1,4 +1,4 @@
-ghost use Rattle.std.specs.Prelude.{◌≡◌, ◌+◌, ◌<◌, ◌≤◌, Ok, Err, IfOk, MatchResult};
+ghost use Rattle.std.specs.Prelude.{◌≡◌, ◌+◌, ◌<◌, ◌≤◌, Ok, Err, IfOk, IfSome, MatchResult};
 ghost use Rattle.std.specs.List.{AllByRecursion};
 ghost use Rattle.sf_algebra.specs.Bounds.{HasSmallSize};
 ghost use Rattle.sf_algebra.specs.Matrices.{IsMatrix};
@@ -10,6 +10,7 @@ ghost use Rattle.sf_buchberger.specs.GraphBases.{IsGraph, IsFault, IsTicked};
 ghost use Rattle.sf_buchberger.specs.Growth.{IsGrown};
 ghost use Rattle.sf_buchberger.specs.WholeBases.{IsWholeBasis};
 
+use crate::counted::counted_rows;
 use crate::graph_rows::{graph_degrees, graph_rows};
 use crate::growth::grown_rows;
 use crate::parts::parts;
@@ -57,7 +58,8 @@ pub fn graph_plain(
         (λ fault. IsFault limit m.now fault) }
     ensures ticks { MatchResult result (λ g. ticks.new ≡ ticks.old + 1) (λ fault. IsTicked fault ticks.old ticks.new) }
 {
-    graph_alone(whole_basis(alloc, m, limit, &mut FirstStrategy, ticks))
+    let basis = plain_basis(alloc, m, limit, &mut FirstStrategy);
+    graph_alone(ticked(basis, ticks))
 }
 
 /// What a basis gives, without its elements.
@@ -88,14 +90,62 @@ pub fn whole_basis<S: Strategy>(
     ensures ticks { MatchResult result (λ _. ticks.new ≡ ticks.old + 1) (λ fault. IsTicked fault ticks.old ticks.new) }
 {
     let basis = decided_basis(alloc, m, limit, strategy);
+    ticked(basis, ticks)
+}
+
+/// What there is of a basis, after a tick, unless memory is wanting.
+fn ticked(basis: Result<GraphBasis, BaseFault>, ticks: &mut Ticks) -> Result<GraphBasis, BaseFault>
+    requires ticks { ticks.old < u64.MAX }
+    ensures same { result ≡ basis }
+    ensures ticks { MatchResult result (λ _. ticks.new ≡ ticks.old + 1) (λ fault. IsTicked fault ticks.old ticks.new) }
+{
     if !matches!(basis, Err(BaseFault::Memory)) {
         ticks.tick();
     }
     basis
 }
 
-/// The same without a tick.
+/// The basis by linear algebra in each degree, as far as that goes, and else by a loop over single pairs.
 fn decided_basis<S: Strategy>(
+    alloc: Global,
+    m: &Matrix,
+    limit: u32,
+    strategy: &mut S,
+) -> Result<GraphBasis, BaseFault>
+    requires limit { limit ≤ 60 }
+    ensures basis { MatchResult result (IsWholeBasis limit m.now) (IsFault limit m.now) }
+{
+    if has_small_size(m) {
+        if let Some(basis) = counted_basis(alloc, m, limit, strategy)? {
+            return Ok(basis);
+        }
+    }
+    plain_basis(alloc, m, limit, strategy)
+}
+
+/// The basis by linear algebra in each degree. `None` says nothing.
+fn counted_basis<S: Strategy>(
+    alloc: Global,
+    m: &Matrix,
+    limit: u32,
+    strategy: &mut S,
+) -> Result<Option<GraphBasis>, OutOfMemory>
+    requires size { HasSmallSize m.now }
+    requires limit { limit ≤ 60 }
+    ensures basis { IfOk result (λ found. IfSome found (IsWholeBasis limit m.now)) }
+{
+    let generators = graph_rows(alloc, m)?;
+    match counted_rows(alloc, m, &generators, limit, strategy)? {
+        None => Ok(None),
+        Some(rows) => {
+            let basis = basis_of(alloc, m, limit, rows)?;
+            Ok(Some(basis))
+        }
+    }
+}
+
+/// The basis by a loop over single pairs.
+fn plain_basis<S: Strategy>(
     alloc: Global,
     m: &Matrix,
     limit: u32,
@@ -144,8 +194,23 @@ fn cut_basis(
     requires small { IsSmall limit m.now elements.items }
     ensures basis { IfOk result (IsWholeBasis limit m.now) }
 {
-    let graph = parts(alloc, m, &elements)?;
     let elements = graph_matrix(alloc, m, elements)?;
+    basis_of(alloc, m, limit, elements)
+}
+
+/// The same where the elements are the rows of a matrix.
+fn basis_of(
+    alloc: Global,
+    m: &Matrix,
+    limit: u32,
+    elements: Matrix,
+) -> Result<GraphBasis, OutOfMemory>
+    requires ring { elements.ring ≡ m.now.ring }
+    requires target { elements.target ≡ graph_degrees m.now }
+    requires small { IsSmall limit m.now elements.rows }
+    ensures basis { IfOk result (IsWholeBasis limit m.now) }
+{
+    let graph = parts(alloc, m, &elements)?;
     let leads = Leads::of(alloc, &elements)?;
     Ok(GraphBasis {
         elements,

@@ -7,12 +7,12 @@ ghost use Rattle.sf_buchberger.specs.Growth.{IsGrown};
 mod chains;
 mod choice;
 mod done;
-mod leads;
-mod pairing;
+pub(crate) mod leads;
+pub(crate) mod pairing;
 mod rows;
-mod start;
+pub(crate) mod start;
 mod state;
-mod steps;
+pub(crate) mod steps;
 
 use crate::growth::start::start;
 use crate::growth::state::Outcome;

@@ -2,6 +2,7 @@
 #![tactic(auto)]
 
 mod basis;
+mod counted;
 mod graph_rows;
 mod growth;
 mod parts;

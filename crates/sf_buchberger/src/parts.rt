@@ -10,19 +10,19 @@ use sf_field::{Copied, OutOfMemory};
 use sf_matrix::{Graph, Matrix, Vector};
 use std::alloc::Global;
 
-/// The values, the coefficients and the syzygies of some vectors of the graph of `m`.
-pub(crate) fn parts(alloc: Global, m: &Matrix, rows: &[Vector]) -> Result<Graph, OutOfMemory>
+/// The values, the coefficients and the syzygies of the rows of a matrix over the graph of `m`.
+pub(crate) fn parts(alloc: Global, m: &Matrix, rows: &Matrix) -> Result<Graph, OutOfMemory>
     requires size { HasSmallSize m.now }
-    requires vectors { AllByRecursion (IsVector m.now.ring (graph_degrees m.now)) rows.now }
-    ensures parts { IfOk result (λ g. AreParts m.now rows.now g.basis g.coefficients g.syzygies) }
+    requires vectors { AllByRecursion (IsVector m.now.ring (graph_degrees m.now)) rows.now.rows }
+    ensures parts { IfOk result (λ g. AreParts m.now rows.now.rows g.basis g.coefficients g.syzygies) }
 {
     let mut graph = Graph {
         basis: Matrix::new(alloc, m.modulus(), m.target().copy(alloc)?),
         coefficients: Matrix::new(alloc, m.modulus(), m.row_module(alloc)?),
         syzygies: Matrix::new(alloc, m.modulus(), m.row_module(alloc)?),
     };
-    for row in rows {
-        push_parts(alloc, m, row, &mut graph)?;
+    for i in 0..rows.rows() {
+        push_parts(alloc, m, rows.row(i), &mut graph)?;
     }
     Ok(graph)
 }

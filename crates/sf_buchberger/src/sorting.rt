@@ -36,7 +36,7 @@ fn place_of(sorted: &[Vector], row: &Vector) -> usize
 }
 
 /// Compares rows: by their degrees, and in one degree by their leads, the greater one first.
-fn row_order(v: &Vector, w: &Vector) -> Ordering
+pub(crate) fn row_order(v: &Vector, w: &Vector) -> Ordering
     ensures { result ≡ row_cmp ones v.now w.now }
 {
     match v.degree().cmp(&w.degree()) {

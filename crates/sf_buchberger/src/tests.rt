@@ -2,7 +2,7 @@ ghost use Rattle.std.specs.Prelude.{◌≡◌, ◌≤◌, [], ◌∷◌, IfOk, p
 ghost use Rattle.sf_algebra.specs.Monomials.{from_exponents};
 ghost use Rattle.sf_algebra.specs.Rings.{plain};
 
-use crate::basis::graph_basis;
+use crate::basis::{graph_basis, graph_plain};
 use sf_field::{Modulus, OutOfMemory};
 use sf_matrix::{BaseFault, Free, Graph, List, Matrix, Vector};
 use sf_mono::Mono;
@@ -115,5 +115,17 @@ fn variables_have_one_syzygy(rt: HostRuntime) -> Result<(), Fail> {
     let syzygies = entries_of(rt.alloc(), &graph.syzygies)?;
     let syzygy = [(0, 2, 0, 0, 1, 1), (0, 2, 1, 1, 0, 100)];
     assert_eq!(rt; syzygies.as_slice(), syzygy.as_slice());
+    Ok(())
+}
+
+#[test]
+fn both_ways_give_one_basis(rt: HostRuntime) -> Result<(), Fail> {
+    let m = quadrics(rt.alloc())?;
+    let by_degrees = basis_of(rt.alloc(), &m, 3)?.map_err(|_fault| "a fault")?;
+    let mut ticks = Ticks::new();
+    let by_pairs = graph_plain(rt.alloc(), &m, 3, &mut ticks).map_err(|_fault| "a fault")?;
+    assert_eq!(rt; by_degrees.basis, by_pairs.basis);
+    assert_eq!(rt; by_degrees.coefficients, by_pairs.coefficients);
+    assert_eq!(rt; by_degrees.syzygies, by_pairs.syzygies);
     Ok(())
 }

@@ -63,7 +63,7 @@ fn push_pair(
 }
 
 /// The degree of a multiple, by that of a vector with this lead.
-fn degree_by_lead(degree: i32, lead: Mono, multiple: Mono) -> i64
+pub(crate) fn degree_by_lead(degree: i32, lead: Mono, multiple: Mono) -> i64
     ensures { result ≡ (degree -ℤ pos (exponent_sum lead)) +ℤ pos (exponent_sum multiple) }
 {
     i64::from(degree) - i64::from(lead.sum()) + i64::from(multiple.sum())

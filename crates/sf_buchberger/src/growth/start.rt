@@ -31,7 +31,7 @@ pub(crate) fn start(alloc: Global, generators: &Matrix) -> Result<Growth, OutOfM
 }
 
 /// The queue of all generators.
-fn waiting_inputs(alloc: Global, generators: &Matrix) -> Result<PairQueue, OutOfMemory>
+pub(crate) fn waiting_inputs(alloc: Global, generators: &Matrix) -> Result<PairQueue, OutOfMemory>
     requires few { length generators.now.rows ≤ GREATEST_SIZE }
     ensures waiting { IfOk result (λ queue. queue ≡ queued_inputs 0 generators.now.rows) }
 {

@@ -149,7 +149,7 @@ impl Growth {
 }
 
 /// Does nothing: its contract says what holds of each matrix.
-fn facts(m: &Matrix)
+pub(crate) fn facts(m: &Matrix)
     ensures field { IsOverField m.now.ring }
     ensures weights { m.now.ring.weights ≡ ones }
     ensures matrix { IsMatrix m.now }

@@ -34,7 +34,7 @@ use Rattle.sf_counting.specs.Counts.{IsFull}
 use Rattle.sf_counting.proofs.Counting.FullDegrees.{ReducesToZero-full, combination_where_full}
 
 -- vectors with unit vectors behind them keep their degrees and their variables
-with_units-each : (n : ℕ) (P : ℤ → Type 0) (i : ℕ) (vs : List Vector) → AreInVariables n vs
+pub with_units-each : (n : ℕ) (P : ℤ → Type 0) (i : ℕ) (vs : List Vector) → AreInVariables n vs
     → AllByRecursion (λ (v : Vector). P v.degree) vs
     → AllByRecursion (λ (v : Vector). IsVectorInVariables n v × P v.degree) (with_units i vs)
 unfolding with_units
