@@ -2,10 +2,11 @@
 //! measured beside: Buchberger's algorithm on the graph, in ascending degree, with the chain criterion and geometric
 //! buckets.
 //!
-//! usage: graph_bases script|replies cubics|quartics|modules
+//! usage: graph_bases script cubics|quartics|quadrics|modules
+//!        graph_bases replies FILE
 //!
-//! The jobs are seven dense cubics in five variables, six dense quartics in four, and a hundred small modules, all
-//! modulo 32003.
+//! The jobs made here are seven dense cubics in five variables, six dense quartics in four, eight dense quadrics in six, and
+//! a hundred small modules. All coefficients are residues modulo 32003.
 
 mod common;
 
@@ -15,7 +16,7 @@ use std::collections::BTreeMap;
 use std::fmt::Write;
 
 const P: u64 = 32003;
-const VARIABLES: [&str; 5] = ["a", "b", "c", "d", "e"];
+const VARIABLES: [&str; 6] = ["a", "b", "c", "d", "e", "f"];
 
 /// The sum of the exponents, and the exponents.
 #[derive(Clone, Copy, PartialEq, Eq)]
@@ -423,43 +424,114 @@ fn print_degrees(out: &mut String, degrees: impl Iterator<Item = i64>) {
     write!(out, "({})", texts.join(",")).unwrap();
 }
 
-fn main() {
-    let words: Vec<String> = std::env::args().collect();
-    let (variables, matrices) = match words[2].as_str() {
+/// A term of a script: a coefficient and powers of variables, with `*` between them.
+fn read_term(text: &str, names: &[&str], position: u32) -> Term {
+    let mut coefficient = 1;
+    let mut exponents = [0; 6];
+    for factor in text.split('*') {
+        if factor.starts_with(|c: char| c.is_ascii_digit()) {
+            coefficient = factor.parse().unwrap();
+        } else {
+            let (name, power) = factor.split_once('^').unwrap_or((factor, "1"));
+            let variable = names.iter().position(|n| *n == name).unwrap();
+            exponents[variable] = power.parse().unwrap();
+        }
+    }
+    Term {
+        position,
+        coefficient,
+        monomial: Mono {
+            sum: exponents.iter().map(|e| *e as u32).sum(),
+            exponents,
+        },
+    }
+}
+
+/// The matrix of a line `module NAME degrees D .. relations [..]`, whose terms all have a plus sign.
+fn read_module(line: &str, names: &[&str]) -> Matrix {
+    let (front, rows) = line.split_once(" relations ").unwrap();
+    let target: Vec<i64> = front
+        .split(' ')
+        .skip(3)
+        .map(|d| d.parse().unwrap())
+        .collect();
+    let rows = rows[1..rows.len() - 1]
+        .split(';')
+        .map(|row| {
+            let mut terms = Vec::new();
+            for (position, entry) in row.split(',').enumerate() {
+                if entry != "0" {
+                    terms.extend(entry.split('+').map(|t| read_term(t, names, position as u32)));
+                }
+            }
+            terms.sort_by(|a, b| b.compare(a));
+            let degree = target[terms[0].position as usize] + terms[0].monomial.sum as i64;
+            Row { degree, terms }
+        })
+        .collect();
+    Matrix { target, rows }
+}
+
+/// The script of a job whose modules are made here.
+fn script_of(job: &str) -> String {
+    let (variables, matrices) = match job {
         "cubics" => (5, vec![ideal(5, 3, 7)]),
         "quartics" => (4, vec![ideal(4, 4, 6)]),
+        "quadrics" => (6, vec![ideal(6, 2, 8)]),
         "modules" => {
             let mut generator = Generator { state: 1 };
             (3, (0..100).map(|_| module(&mut generator)).collect())
         }
         _ => panic!("no such job"),
     };
-    let mut out = String::new();
-    if words[1] == "script" {
-        let names = VARIABLES[..variables].join(" ");
-        writeln!(out, "spectral 1\nring {P} {names}").unwrap();
-        for (k, m) in matrices.iter().enumerate() {
-            let degrees: Vec<String> = m.target.iter().map(|d| d.to_string()).collect();
-            write!(out, "module M{k} degrees {} relations ", degrees.join(" ")).unwrap();
-            print_rows(&mut out, m.target.len(), &m.rows.iter().collect::<Vec<_>>());
-            writeln!(out, "\nbasis M{k}").unwrap();
-        }
-    } else {
-        out.push_str("ok\nok\n");
-        for m in &matrices {
-            let basis = Basis::of_graph(m);
-            let values: Vec<&Row> = basis
-                .iter()
-                .filter(|row| (row.terms[0].position as usize) < m.target.len())
-                .collect();
-            out.push_str("ok\nbasis ");
-            print_degrees(&mut out, values.iter().map(|row| row.degree));
-            out.push_str("->");
-            print_degrees(&mut out, m.target.iter().copied());
-            out.push(' ');
-            print_rows(&mut out, m.target.len(), &values);
-            out.push('\n');
-        }
+    let names = VARIABLES[..variables].join(" ");
+    let mut out = format!("spectral 1\nring {P} {names}\n");
+    for (k, m) in matrices.iter().enumerate() {
+        let degrees: Vec<String> = m.target.iter().map(|d| d.to_string()).collect();
+        write!(out, "module M{k} degrees {} relations ", degrees.join(" ")).unwrap();
+        print_rows(&mut out, m.target.len(), &m.rows.iter().collect::<Vec<_>>());
+        writeln!(out, "\nbasis M{k}").unwrap();
     }
+    out
+}
+
+/// The replies to a script of modules, each with a line that asks for its basis.
+fn replies_to(script: &str) -> String {
+    let mut names = Vec::new();
+    let mut out = String::new();
+    let mut module = None;
+    for line in script.lines() {
+        if let Some(ring) = line.strip_prefix("ring ") {
+            names = ring.split(' ').skip(1).collect();
+        }
+        if line.starts_with("module ") {
+            module = Some(read_module(line, &names));
+        }
+        let Some(m) = line.strip_prefix("basis ").and(module.as_ref()) else {
+            out.push_str("ok\n");
+            continue;
+        };
+        let basis = Basis::of_graph(m);
+        let values: Vec<&Row> = basis
+            .iter()
+            .filter(|row| (row.terms[0].position as usize) < m.target.len())
+            .collect();
+        out.push_str("basis ");
+        print_degrees(&mut out, values.iter().map(|row| row.degree));
+        out.push_str("->");
+        print_degrees(&mut out, m.target.iter().copied());
+        out.push(' ');
+        print_rows(&mut out, m.target.len(), &values);
+        out.push('\n');
+    }
+    out
+}
+
+fn main() {
+    let words: Vec<String> = std::env::args().collect();
+    let out = match words[1].as_str() {
+        "script" => script_of(&words[2]),
+        _ => replies_to(&std::fs::read_to_string(&words[2]).unwrap()),
+    };
     print!("{out}");
 }
