@@ -8,4 +8,5 @@ pub mod PurityParts
 pub mod Existing
 pub mod Bounded
 pub mod HighestColumns
+pub mod Extended
 pub mod Examples

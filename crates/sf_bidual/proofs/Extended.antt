@@ -1,0 +1,3 @@
+-- The vectors of all columns but the two highest ones: those whose map of the boundaries extends to the cycles.
+pub mod Cancelling
+pub mod FreeCycles
