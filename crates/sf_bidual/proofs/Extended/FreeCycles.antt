@@ -139,6 +139,9 @@ module _ (ring : Ring) (maps : ℕ → Matrix) (x : CartanEilenberg) (prime : Is
   }
   resolution-exact (suc j) = exact (suc j)
 
+  pub Q-exact : IsExactPair Q (cycle_steps x 1 1)
+  Q-exact = resolution-exact 0
+
   pub transposed-cycles : IsExactPair (transposed (cycle_steps x 1 1)) (transposed Q)
   transposed-cycles =
       transposed_exact_at ring prime.prime.above_one (degrees_of g) resolution refl refl onto resolution-exact 0

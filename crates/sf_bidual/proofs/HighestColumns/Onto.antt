@@ -104,7 +104,7 @@ module _ (ring : Ring) (prime : IsOverField ring) (x : CartanEilenberg) (none : 
   abbrev units : Matrix
   units = widened (widened (identity ring block) (row_degrees (x.homology 1 0))) (row_degrees (x.boundaries 2 0))
 
-  horizontal-unit : horizontal_step ring x 0 0 ≡ units
+  pub horizontal-unit : horizontal_step ring x 0 0 ≡ units
   horizontal-unit = λ i. stacked (zero_matrix ring (none i) (column_degrees x 1 0)) units
 
   pub horizontal-onto : (v : Vector) → IsVector ring (map neg_ℤ (column_degrees x 0 0)) v

@@ -220,6 +220,16 @@ module _ (ring : Ring) (maps : ℕ → Matrix) (x : CartanEilenberg) (prime : Is
         (column-rings ring maps x prime complex h (suc i) (suc j)))
 
   module _ (i : ℕ) where
+    -- the first block of the cycles, and of the column, is that of the boundaries
+    pub inner-start : matrix_product (inner_unit i 0) (cycle_steps x (suc i) 0) ≡ x.boundaries (suc i) 0
+    inner-start =
+        let inner = inner_horseshoe ring maps x prime complex h (suc i) in
+        widened-stacked (identity ring (row_degrees (x.boundaries (suc i) 0))) (x.boundaries (suc i) 0)
+        (x.inner (suc i) 0) (row_degrees (x.homology (suc i) 0))
+        (sym (inner-degrees ring maps x prime complex h (suc i) 0)) (identity-block i 0) (sym inner.start.ring_of)
+        (sym inner.start.target_of) (identity-matrix i 0) (block-matrix i 0)
+        ∙ block-identity_first i 0
+
     unit-start : matrix_product (unit i 0) (column_steps x (suc i) 0) ≡ x.boundaries (suc i) 0
     unit-start =
         let inside : IsComposable (inner_unit i 0) (cycle_steps x (suc i) 0) = record {
@@ -228,16 +238,11 @@ module _ (ring : Ring) (maps : ℕ → Matrix) (x : CartanEilenberg) (prime : Is
           degrees = cycle_degrees-steps ring maps x prime complex h (suc i) 0;
         } in
         let outer = outer_horseshoe ring maps x prime complex h (suc i) in
-        let inner = inner_horseshoe ring maps x prime complex h (suc i) in
         widened-stacked (inner_unit i 0) (cycle_steps x (suc i) 0) (x.outer (suc i) 0)
         (row_degrees (x.boundaries (suc (suc i)) 0)) (sym (outer-degrees ring maps x prime complex h (suc i) 0)) inside
         (sym outer.start.ring_of) (sym outer.start.target_of) (inner_unit-matrix i 0)
         ((resolves_cycles ring maps x prime complex h (suc i)).exact 0).out_matrix
-        ∙ widened-stacked (identity ring (row_degrees (x.boundaries (suc i) 0))) (x.boundaries (suc i) 0)
-        (x.inner (suc i) 0) (row_degrees (x.homology (suc i) 0))
-        (sym (inner-degrees ring maps x prime complex h (suc i) 0)) (identity-block i 0) (sym inner.start.ring_of)
-        (sym inner.start.target_of) (identity-matrix i 0) (block-matrix i 0)
-        ∙ block-identity_first i 0
+        ∙ inner-start
 
     cycles-zero : IsZeroMatrix (matrix_product (cycle_steps x i 0) (maps i))
     cycles-zero =
