@@ -21,7 +21,7 @@ use Rattle.sf_blocks.proofs.SideBySide.BesideProducts.{AreParallel-products, mat
 use Rattle.sf_blocks.proofs.TwoByTwo.ZeroParts.{IsZeroMatrix-product_second, IsZeroMatrix-zero_matrix, matrix_sum-zero_second}
 use Rattle.sf_homotopy.proofs.Exactness.ZeroProducts.{zero_products}
 use Rattle.sf_bidual.specs.CartanEilenberg.{CartanEilenberg, IsCartanEilenberg, IsCochainComplex, column_degrees, column_steps, cycle_degrees, cycle_steps, horizontal_step, widened}
-use Rattle.sf_bidual.proofs.Columns.Laws.{boundary-rings, boundary-target, column-rings, column_degrees-steps, cycle-rings, cycle_degrees-steps, outer-degrees, outer_horseshoe, resolves_boundaries, resolves_cycles, resolves_terms}
+use Rattle.sf_bidual.proofs.Columns.Laws.{boundary-rings, boundary-target, column-rings, column-target, column_degrees-steps, cycle-rings, cycle_degrees-steps, outer-degrees, outer_horseshoe, resolves_boundaries, resolves_cycles, resolves_terms}
 use Rattle.sf_bidual.proofs.Extended.Cancelling.{cancel, equal_coefficients}
 use Rattle.sf_bidual.proofs.Extended.FreeCycles.{IsBasisOfCycles, Q, Q-degrees, Q-exact, Q-matrix, Q-product}
 use Rattle.sf_bidual.proofs.Extended.Restrictions.{E, combined-transposed, cycle_part-degrees, cycle_part-matrix, product-cycle_part, restricted}
@@ -182,3 +182,196 @@ module _ (ring : Ring) (maps : ℕ → Matrix) (x : CartanEilenberg) (prime : Is
             (subst (λ ds. IsVector ring ds m) (sym T-degrees) hm)
             (λ i. record { degree = degree i; terms = terms i });
       }
+
+  -- the coefficients in the basis, and 0 on the last block of column 1
+  abbrev last_degrees : List ℤ
+  last_degrees = row_degrees (x.boundaries 2 0)
+
+  abbrev Z : Matrix
+  Z = zero_matrix ring last_degrees (degrees_of g)
+
+  abbrev K : Matrix
+  K = stacked R Z
+
+  K-matrix : IsMatrix K
+  K-matrix = IsMatrix-stacked R Z refl refl R-matrix (IsMatrix-zero_matrix ring last_degrees (degrees_of g))
+
+  K-degrees : row_degrees K ≡ column_degrees x 1 0
+  K-degrees =
+      row_degrees-stacked R Z ∙ (λ i. R-degrees i ++ row_degrees-zero_matrix ring last_degrees (degrees_of g) i)
+
+  K-here : matrix_product (horizontal_step ring x 0 0) K ≡ matrix_product inner R
+  K-here =
+      ap (λ m. matrix_product m K) (horizontal-unit ring prime x no_cycles)
+      ∙ widened-stacked inner R Z last_degrees (sym (row_degrees-zero_matrix ring last_degrees (degrees_of g)))
+      inner-composable refl refl (inner_unit-matrix ring maps x prime complex h 0 0) R-matrix
+
+  -- its differential stands in the last block, so it is a horizontal image
+  abbrev side : Matrix
+  side = x.outer 1 1
+
+  side-matrix : IsMatrix (x.outer 1 1)
+  side-matrix =
+      IsMatrix-side (cycle_steps x 1) (x.boundaries 2) (x.outer 1) (outer_horseshoe ring maps x prime complex h 1) 1
+
+  together : AreTriangle (cycle_steps x 1 1) (x.outer 1 1) (x.boundaries 2 1)
+  together =
+      AreTriangle-horseshoe (cycle_steps x 1) (x.boundaries 2) (x.outer 1) (outer_horseshoe ring maps x prime complex h 1) 0
+
+  side-ring : side.ring ≡ ring
+  side-ring = sym together.rings ∙ cycle-rings ring maps x prime complex h 1 1
+
+  abbrev V : Matrix
+  V = matrix_of ring (degrees_of g) (matrix_product side R).rows
+
+  V-same : matrix_product side R ≡ V
+  V-same = λ i. record { ring = side-ring i; target = degrees_of g; rows = (matrix_product side R).rows }
+
+  cycles-target : (cycle_steps x 1 1).target ≡ cycle_degrees x 1 0
+  cycles-target =
+      sym ((resolves_cycles ring maps x prime complex h 1).exact 0).meet.degrees
+      ∙ cycle_degrees-steps ring maps x prime complex h 1 0
+
+  side-composable : IsComposable side R
+  side-composable = record {
+    positive = subst (λ (q : Ring). 0 < q.modulus) (sym side-ring) p;
+    rings = side-ring;
+    degrees = R-degrees ∙ sym cycles-target ∙ together.targets;
+  }
+
+  V-matrix : IsMatrix V
+  V-matrix = subst IsMatrix V-same (IsMatrix-matrix_product side R side-composable side-matrix R-matrix)
+
+  V-degrees : row_degrees V ≡ row_degrees (x.boundaries 2 1)
+  V-degrees = row_degrees-matrix_product side R ∙ outer-degrees ring maps x prime complex h 1 1
+
+  K-next : matrix_product (column_steps x 1 1) K ≡ stacked (zero_matrix ring (cycle_degrees x 1 1) (degrees_of g)) V
+  K-next =
+      let cycles = cycle_steps x 1 1 in
+      let cycles_ring = cycle-rings ring maps x prime complex h 1 1 in
+      let block = x.boundaries 2 1 in
+      let below : row_degrees Z ≡ block.target =
+      row_degrees-zero_matrix ring last_degrees (degrees_of g) ∙ sym (boundary-target ring maps x prime complex h 2 0) in
+      let behind : IsComposable block Z = record {
+        positive = subst (λ (q : Ring). 0 < q.modulus) (sym (boundary-rings ring maps x prime complex h 2 1)) p;
+        rings = boundary-rings ring maps x prime complex h 2 1;
+        degrees = below;
+      } in
+      let above : matrix_product (widened cycles block.target) K
+      ≡ zero_matrix ring (cycle_degrees x 1 1) (degrees_of g) =
+      widened-stacked cycles R Z block.target (sym below)
+      (record {
+        positive = subst (λ (q : Ring). 0 < q.modulus) (sym cycles_ring) p;
+        rings = cycles_ring;
+        degrees = R-degrees ∙ sym cycles-target;
+      }) refl refl ((resolves_cycles ring maps x prime complex h 1).exact 1).out_matrix R-matrix
+      ∙ zero_products R cycles prime.prime.above_one (Q-exact ring maps x prime complex h g basis)
+      ∙ (λ i. zero_matrix (cycles_ring i)
+      ((row_degrees-matrix_product cycles R ∙ cycle_degrees-steps ring maps x prime complex h 1 1) i) (degrees_of g)) in
+      let last : matrix_product (beside side block) K ≡ V =
+      matrix_product-beside_stacked side block R Z together.lower side-composable behind refl side-matrix
+      ∙ matrix_sum-zero_second (matrix_product side R) (matrix_product block Z)
+      (AreParallel-products side block R Z together.lower side-composable behind refl) side-composable.positive
+      (IsMatrix-matrix_product side R side-composable side-matrix R-matrix)
+      (IsZeroMatrix-product_second block Z behind.positive
+      (IsZeroMatrix-zero_matrix ring last_degrees (degrees_of g)))
+      ∙ V-same in
+      matrix_product-stacked (widened cycles block.target) (beside side block) K together.rings
+      ∙ (λ i. stacked (above i) (last i))
+
+  -- that image
+  abbrev homology_zeros : Matrix
+  homology_zeros = zero_matrix ring (row_degrees (x.homology 2 1)) (degrees_of g)
+
+  abbrev other_zeros : Matrix
+  other_zeros = zero_matrix ring (row_degrees (x.boundaries 3 1)) (degrees_of g)
+
+  abbrev upper : Matrix
+  upper = stacked V homology_zeros
+
+  abbrev W : Matrix
+  W = stacked upper other_zeros
+
+  upper-matrix : IsMatrix upper
+  upper-matrix =
+      IsMatrix-stacked V homology_zeros refl refl V-matrix
+      (IsMatrix-zero_matrix ring (row_degrees (x.homology 2 1)) (degrees_of g))
+
+  W-matrix : IsMatrix W
+  W-matrix =
+      IsMatrix-stacked upper other_zeros refl refl upper-matrix
+      (IsMatrix-zero_matrix ring (row_degrees (x.boundaries 3 1)) (degrees_of g))
+
+  upper-degrees : row_degrees upper ≡ cycle_degrees x 2 1
+  upper-degrees =
+      row_degrees-stacked V homology_zeros
+      ∙ (λ i. V-degrees i ++ row_degrees-zero_matrix ring (row_degrees (x.homology 2 1)) (degrees_of g) i)
+
+  W-degrees : row_degrees W ≡ column_degrees x 2 1
+  W-degrees =
+      row_degrees-stacked upper other_zeros
+      ∙ (λ i. upper-degrees i ++ row_degrees-zero_matrix ring (row_degrees (x.boundaries 3 1)) (degrees_of g) i)
+
+  W-value : matrix_product (horizontal_step ring x 1 1) W ≡ stacked (zero_matrix ring (cycle_degrees x 1 1) (degrees_of g)) V
+  W-value =
+      let one = identity ring (row_degrees (x.boundaries 2 1)) in
+      let value : matrix_product (unit ring maps x prime complex h 1 1) W ≡ V =
+      widened-stacked (inner_unit ring maps x prime complex h 1 1) upper other_zeros (row_degrees (x.boundaries 3 1))
+      (sym (row_degrees-zero_matrix ring (row_degrees (x.boundaries 3 1)) (degrees_of g)))
+      (record { positive = p; rings = refl; degrees = upper-degrees }) refl refl
+      (inner_unit-matrix ring maps x prime complex h 1 1) upper-matrix
+      ∙ widened-stacked one V homology_zeros (row_degrees (x.homology 2 1))
+      (sym (row_degrees-zero_matrix ring (row_degrees (x.homology 2 1)) (degrees_of g)))
+      (record { positive = p; rings = refl; degrees = V-degrees }) refl refl
+      (IsMatrix-identity ring prime.prime.above_one (row_degrees (x.boundaries 2 1))) V-matrix
+      ∙ ap (λ ds. matrix_product (identity ring ds) V) (sym V-degrees)
+      ∙ matrix_product-identity_first V p V-matrix in
+      horizontal-product ring maps x prime complex h 1 1 W refl
+      ∙ ap (stacked (zero_matrix ring (cycle_degrees x 1 1) (degrees_of g))) value
+
+  pub factor_spans : (m : Vector) → InSpan (transposed X) m
+      → (u : Vector) × (w : Vector) × IsVector ring (map neg_ℤ (column_degrees x 1 0)) u
+      × IsVector ring (map neg_ℤ (column_degrees x 2 1)) w
+      × (combined_rows ring (transposed (horizontal_step ring x 0 0)).rows u
+      ≡ combined_rows ring (transposed (column_steps x 0 0)).rows m)
+      × (row_combination ring (transposed (column_steps x 1 1)).rows u.terms
+      ≡ row_combination ring (transposed (horizontal_step ring x 1 1)).rows w.terms)
+  factor_spans m s =
+      let f : Vector = s.coefficients in
+      let vector : IsVector ring (map neg_ℤ (degrees_of g)) f =
+      subst (λ ds. IsVector ring ds f) (row_degrees-transposed X) s.homogeneous in
+      let over : (k : Matrix) → k.ring ≡ ring → k.target ≡ degrees_of g → IsMatrix k
+      → IsVector ring (map neg_ℤ (row_degrees k)) (combined_rows ring (transposed k).rows f) =
+      λ k k_ring target matrix.
+      subst (λ (q : Ring). IsVector q (map neg_ℤ (row_degrees k)) (combined_rows q (transposed k).rows f)) k_ring
+      (IsVector-row_combination (transposed k) (subst (λ (q : Ring). 0 < q.modulus) (sym k_ring) p)
+      (IsMatrix-transposed k matrix) f
+      (subst (λ (q : Ring). IsVector q (row_degrees (transposed k)) f) (sym k_ring)
+      (subst (λ ds. IsVector ring ds f) (ap (map neg_ℤ) (sym target) ∙ sym (row_degrees-transposed k)) vector))) in
+      let here : row_combination ring (transposed (horizontal_step ring x 0 0)).rows
+      (row_combination ring (transposed K).rows f.terms)
+      ≡ row_combination ring (transposed (column_steps x 0 0)).rows m.terms =
+      sym (combined-transposed ring p (horizontal_step ring x 0 0) K refl refl K-degrees
+      (IsMatrix-horizontal ring maps x prime complex h 0 0) K-matrix f.terms)
+      ∙ ap (λ (n : Matrix). row_combination ring (transposed n).rows f.terms) K-here
+      ∙ sym (augmented f)
+      ∙ ap (λ (v : Vector). row_combination ring (transposed (column_steps x 0 0)).rows v.terms) s.value in
+      let next : row_combination ring (transposed (column_steps x 1 1)).rows
+      (row_combination ring (transposed K).rows f.terms)
+      ≡ row_combination ring (transposed (horizontal_step ring x 1 1)).rows
+      (row_combination ring (transposed W).rows f.terms) =
+      sym (combined-transposed ring p (column_steps x 1 1) K (column-rings ring maps x prime complex h 1 1) refl
+      (K-degrees ∙ sym (column-target ring maps x prime complex h 1 0))
+      ((resolves_terms ring maps x prime complex h 1).exact 1).out_matrix K-matrix f.terms)
+      ∙ ap (λ (n : Matrix). row_combination ring (transposed n).rows f.terms) (K-next ∙ sym W-value)
+      ∙ combined-transposed ring p (horizontal_step ring x 1 1) W refl refl W-degrees
+      (IsMatrix-horizontal ring maps x prime complex h 1 1) W-matrix f.terms in (
+        combined_rows ring (transposed K).rows f,
+        combined_rows ring (transposed W).rows f,
+        subst (λ ds. IsVector ring (map neg_ℤ ds) (combined_rows ring (transposed K).rows f)) K-degrees
+            (over K refl refl K-matrix),
+        subst (λ ds. IsVector ring (map neg_ℤ ds) (combined_rows ring (transposed W).rows f)) W-degrees
+            (over W refl refl W-matrix),
+        λ i. record { degree = ap (λ (v : Vector). v.degree) s.value i; terms = here i },
+        next,
+      )
