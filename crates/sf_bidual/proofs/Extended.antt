@@ -3,3 +3,4 @@ pub mod Cancelling
 pub mod FreeCycles
 pub mod Restrictions
 pub mod Factors
+pub mod TwoColumns
