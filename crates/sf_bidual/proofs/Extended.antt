@@ -4,3 +4,4 @@ pub mod FreeCycles
 pub mod Restrictions
 pub mod Factors
 pub mod TwoColumns
+pub mod Factored

@@ -12,3 +12,4 @@ pub mod Purity
 pub mod PurityLaws
 pub mod TorsionLaws
 pub mod PurityExample
+pub mod FactorLaws

@@ -38,7 +38,7 @@ module _ (b : Bicomplex) (h : IsBicomplex b) (n : ℕ) (degrees : ℤ → List �
   no_start : (t : ℤ) → column_start b t (suc n) ≡ 0
   no_start t = subst (λ c. column_start b t c ≡ 0) k.columns (omega arith)
 
-  set-terms : (t d : ℤ) (m : (vectors_of_degree b.ring h.is_ring.modulus (degrees (t -ℤ pos n)) d).V)
+  pub set-terms : (t d : ℤ) (m : (vectors_of_degree b.ring h.is_ring.modulus (degrees (t -ℤ pos n)) d).V)
       → (set b h n degrees augmentation map k d t m).0 ≡ row_combination b.ring (augmentation (t -ℤ pos n)).rows m.0
   set-terms t d m =
       ap (λ s. moved s (row_combination b.ring (augmentation (t -ℤ pos n)).rows m.0)) (no_start t)

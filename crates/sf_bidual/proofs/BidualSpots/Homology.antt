@@ -36,15 +36,15 @@ module _ (relations : Matrix) (n : ℕ) (steps : ℕ → Matrix) (x : CartanEile
   pub h : IsBicomplex (bidual relations.ring n x)
   h = bidual_bicomplex relations n steps x prime matrix d
 
-  abbrev degrees : ℤ → List ℤ
+  abbrev pub degrees : ℤ → List ℤ
   degrees =
       set_degrees relations.ring (dual_maps steps) x prime (dual_complex relations n steps x prime matrix d) d.cartan n
 
-  abbrev augmentation : ℤ → Matrix
+  abbrev pub augmentation : ℤ → Matrix
   augmentation =
       augmentations relations.ring (dual_maps steps) x prime (dual_complex relations n steps x prime matrix d) d.cartan n
 
-  abbrev dual : ℤ → Matrix
+  abbrev pub dual : ℤ → Matrix
   dual = set_maps relations.ring (dual_maps steps) x prime (dual_complex relations n steps x prime matrix d) d.cartan n
 
   pub k : IsAugmentedBy (bidual relations.ring n x) n degrees augmentation dual
@@ -65,7 +65,7 @@ module _ (relations : Matrix) (n : ℕ) (steps : ℕ → Matrix) (x : CartanEile
       ap (map neg_ℤ) (row_degrees-transposed (steps 0))
       ∙ map-neg-neg (steps 0).target ∙ d.first.target
 
-  over : (m : Vector) → IsVector relations.ring relations.target m → IsVector relations.ring (degrees (pos n -ℤ pos n)) m
+  pub over : (m : Vector) → IsVector relations.ring relations.target m → IsVector relations.ring (degrees (pos n -ℤ pos n)) m
   over m v = subst (λ ds. IsVector relations.ring ds m) (sym (ap degrees lowest_row ∙ generators)) v
 
   pub same_augmentation : set_matrix b h n degrees augmentation dual k (pos n) ≡ bidual_augmentation relations.ring n x

@@ -21,9 +21,10 @@ use Rattle.sf_blocks.proofs.SideBySide.BesideProducts.{AreParallel-products, mat
 use Rattle.sf_blocks.proofs.TwoByTwo.ZeroParts.{IsZeroMatrix-product_second, IsZeroMatrix-zero_matrix, matrix_sum-zero_second}
 use Rattle.sf_homotopy.proofs.Exactness.ZeroProducts.{zero_products}
 use Rattle.sf_bidual.specs.CartanEilenberg.{CartanEilenberg, IsCartanEilenberg, IsCochainComplex, column_degrees, column_steps, cycle_degrees, cycle_steps, horizontal_step, widened}
+use Rattle.sf_bidual.specs.FactorLaws.{IsFactorOfFirst}
 use Rattle.sf_bidual.proofs.Columns.Laws.{boundary-rings, boundary-target, column-rings, column-target, column_degrees-steps, cycle-rings, cycle_degrees-steps, outer-degrees, outer_horseshoe, resolves_boundaries, resolves_cycles, resolves_terms}
 use Rattle.sf_bidual.proofs.Extended.Cancelling.{cancel, equal_coefficients}
-use Rattle.sf_bidual.proofs.Extended.FreeCycles.{IsBasisOfCycles, Q, Q-degrees, Q-exact, Q-matrix, Q-product}
+use Rattle.sf_bidual.proofs.Extended.FreeCycles.{Q, Q-degrees, Q-exact, Q-matrix, Q-product}
 use Rattle.sf_bidual.proofs.Extended.Restrictions.{E, combined-transposed, cycle_part-degrees, cycle_part-matrix, product-cycle_part, restricted}
 use Rattle.sf_bidual.proofs.HighestColumns.Onto.{horizontal-unit}
 use Rattle.sf_bidual.proofs.HorizontalMaps.Squares.{IsMatrix-horizontal, horizontal-product, inner-start, inner_unit, inner_unit-degrees, inner_unit-matrix, row_degrees-horizontal, unit}
@@ -33,11 +34,9 @@ use Rattle.sf_bidual.proofs.Horseshoes.Lifts.{IsMatrix-lifts, matrix_product-lif
 use Rattle.sf_bidual.proofs.Rows.TransposedColumns.{transposed_one_to_one}
 
 module _ (ring : Ring) (maps : ℕ → Matrix) (x : CartanEilenberg) (prime : IsOverField ring)
-    (complex : IsCochainComplex ring maps) (h : IsCartanEilenberg ring maps x) (g : List Vector)
-    (basis : IsBasisOfCycles ring maps g) (no_boundaries : (x.boundaries 0 0).rows ≡ [])
-    (no_homology : (x.homology 0 0).rows ≡ []) (xs : List Vector)
-    (factor_matrix : IsMatrix (matrix_of ring (degrees_of g) xs))
-    (factors : matrix_product (matrix_of ring (degrees_of g) xs) (matrix_of ring (row_degrees (maps 1)) g) ≡ maps 0) where
+    (complex : IsCochainComplex ring maps) (h : IsCartanEilenberg ring maps x)
+    (no_boundaries : (x.boundaries 0 0).rows ≡ []) (no_homology : (x.homology 0 0).rows ≡ []) (g xs : List Vector)
+    (factor : IsFactorOfFirst ring maps g xs) where
   positive : IsRing ring
   positive = field_ring prime
 
@@ -51,16 +50,16 @@ module _ (ring : Ring) (maps : ℕ → Matrix) (x : CartanEilenberg) (prime : Is
   X = matrix_of ring (degrees_of g) xs
 
   X-degrees : row_degrees X ≡ row_degrees (maps 0)
-  X-degrees = sym (row_degrees-matrix_product X G) ∙ ap row_degrees factors
+  X-degrees = sym (row_degrees-matrix_product X G) ∙ ap row_degrees factor.product
 
   abbrev R : Matrix
-  R = Q ring maps x prime complex h g basis
+  R = Q ring maps x prime complex h g factor.basis
 
-  R-matrix : IsMatrix (Q ring maps x prime complex h g basis)
-  R-matrix = Q-matrix ring maps x prime complex h g basis
+  R-matrix : IsMatrix (Q ring maps x prime complex h g factor.basis)
+  R-matrix = Q-matrix ring maps x prime complex h g factor.basis
 
-  R-degrees : row_degrees (Q ring maps x prime complex h g basis) ≡ cycle_degrees x 1 0
-  R-degrees = Q-degrees ring maps x prime complex h g basis ∙ cycle_degrees-steps ring maps x prime complex h 1 0
+  R-degrees : row_degrees (Q ring maps x prime complex h g factor.basis) ≡ cycle_degrees x 1 0
+  R-degrees = Q-degrees ring maps x prime complex h g factor.basis ∙ cycle_degrees-steps ring maps x prime complex h 1 0
 
   -- the lifts of the generators of B(1)
   abbrev O : Matrix
@@ -88,17 +87,17 @@ module _ (ring : Ring) (maps : ℕ → Matrix) (x : CartanEilenberg) (prime : Is
       } in
       let first : matrix_product (matrix_product inner R) G ≡ x.boundaries 1 0 =
       matrix_product-assoc inner R G p refl
-      ∙ ap (matrix_product inner) (Q-product ring maps x prime complex h g basis)
+      ∙ ap (matrix_product inner) (Q-product ring maps x prime complex h g factor.basis)
       ∙ inner-start ring maps x prime complex h 0 in
       let last : matrix_product (matrix_product O X) G ≡ x.boundaries 1 0 =
       matrix_product-assoc O X G meet.positive O-ring
-      ∙ ap (matrix_product O) factors
+      ∙ ap (matrix_product O) factor.product
       ∙ matrix_product-lifts (maps 0) (x.boundaries 1 0) O (h.outer_start 0)
       (complex.rings 0 ∙ sym (boundary-rings ring maps x prime complex h 1 0))
       (sym (complex.meet 0).degrees ∙ sym (h.boundaries 1).presentation.generators_target) in
-      cancel G positive basis.free (matrix_product inner R) (matrix_product O X)
+      cancel G positive factor.basis.free (matrix_product inner R) (matrix_product O X)
       (IsMatrix-matrix_product inner R inner-composable (inner_unit-matrix ring maps x prime complex h 0 0) R-matrix)
-      (IsMatrix-matrix_product O X meet O-matrix factor_matrix) refl O-ring refl refl (first ∙ sym last)
+      (IsMatrix-matrix_product O X meet O-matrix factor.matrix) refl O-ring refl refl (first ∙ sym last)
 
   -- column 0 has the block of B(1) alone
   first_column : column_steps x 0 0 ≡ x.outer 0 0
@@ -118,7 +117,7 @@ module _ (ring : Ring) (maps : ℕ → Matrix) (x : CartanEilenberg) (prime : Is
   augmented f =
       ap (λ (m : Matrix). row_combination ring (transposed m).rows (row_combination ring (transposed X).rows f.terms))
       first_column
-      ∙ sym (combined-transposed ring p O X O-ring refl (X-degrees ∙ sym (h.outer_start 0).target) O-matrix factor_matrix
+      ∙ sym (combined-transposed ring p O X O-ring refl (X-degrees ∙ sym (h.outer_start 0).target) O-matrix factor.matrix
       f.terms)
       ∙ ap (λ (m : Matrix). row_combination ring (transposed m).rows f.terms) (sym on_boundaries)
 
@@ -151,10 +150,10 @@ module _ (ring : Ring) (maps : ℕ → Matrix) (x : CartanEilenberg) (prime : Is
       ≡ row_combination ring (transposed (horizontal_step ring x 1 1)).rows w.terms
       → InSpan (transposed X) m
   spanned_by_factor u w m hu hm here next =
-      let found = restricted ring maps x prime complex h g basis u w hu next in
+      let found = restricted ring maps x prime complex h g factor.basis u w hu next in
       let f : Vector = found.0 in
       let value : Vector = combined (transposed X) f in
-      let units : horizontal_step ring x 0 0 ≡ matrix_product inner (E ring maps x prime complex h g basis) =
+      let units : horizontal_step ring x 0 0 ≡ matrix_product inner (E ring maps x prime complex h g factor.basis) =
       horizontal-unit ring prime x no_cycles
       ∙ sym (product-cycle_part ring maps x prime complex h 1 0 inner refl refl
       (inner_unit-matrix ring maps x prime complex h 0 0)) in
@@ -164,7 +163,7 @@ module _ (ring : Ring) (maps : ℕ → Matrix) (x : CartanEilenberg) (prime : Is
       ∙ combined-transposed ring p inner R refl refl R-degrees (inner_unit-matrix ring maps x prime complex h 0 0) R-matrix
       f.terms
       ∙ ap (λ (v : Vector). row_combination ring (transposed inner).rows v.terms) found.2
-      ∙ sym (combined-transposed ring p inner (E ring maps x prime complex h g basis) refl refl
+      ∙ sym (combined-transposed ring p inner (E ring maps x prime complex h g factor.basis) refl refl
       (cycle_part-degrees ring maps x prime complex h 1 0) (inner_unit-matrix ring maps x prime complex h 0 0)
       (cycle_part-matrix ring maps x prime complex h 1 0) u.terms)
       ∙ ap (λ (n : Matrix). row_combination ring (transposed n).rows u.terms) (sym units)
@@ -173,7 +172,7 @@ module _ (ring : Ring) (maps : ℕ → Matrix) (x : CartanEilenberg) (prime : Is
       ap (λ (v : Vector). v.degree) found.2 ∙ ap (λ (v : Vector). v.degree) here in
       let inside : IsVector ring (row_degrees T) value =
       subst (λ ds. IsVector ring ds value) (ap (map neg_ℤ) X-degrees ∙ sym T-degrees)
-      (IsVector-row_combination (transposed X) p (IsMatrix-transposed X factor_matrix) f
+      (IsVector-row_combination (transposed X) p (IsMatrix-transposed X factor.matrix) f
       (subst (λ ds. IsVector ring ds f) (sym (row_degrees-transposed X)) found.1)) in
       record {
         coefficients = f;
@@ -265,7 +264,7 @@ module _ (ring : Ring) (maps : ℕ → Matrix) (x : CartanEilenberg) (prime : Is
         rings = cycles_ring;
         degrees = R-degrees ∙ sym cycles-target;
       }) refl refl ((resolves_cycles ring maps x prime complex h 1).exact 1).out_matrix R-matrix
-      ∙ zero_products R cycles prime.prime.above_one (Q-exact ring maps x prime complex h g basis)
+      ∙ zero_products R cycles prime.prime.above_one (Q-exact ring maps x prime complex h g factor.basis)
       ∙ (λ i. zero_matrix (cycles_ring i)
       ((row_degrees-matrix_product cycles R ∙ cycle_degrees-steps ring maps x prime complex h 1 1) i) (degrees_of g)) in
       let last : matrix_product (beside side block) K ≡ V =
@@ -331,7 +330,7 @@ module _ (ring : Ring) (maps : ℕ → Matrix) (x : CartanEilenberg) (prime : Is
 
   pub factor_spans : (m : Vector) → InSpan (transposed X) m
       → (u : Vector) × (w : Vector) × IsVector ring (map neg_ℤ (column_degrees x 1 0)) u
-      × IsVector ring (map neg_ℤ (column_degrees x 2 1)) w
+      × IsVector ring (map neg_ℤ (column_degrees x 2 1)) w × (w.degree ≡ m.degree)
       × (combined_rows ring (transposed (horizontal_step ring x 0 0)).rows u
       ≡ combined_rows ring (transposed (column_steps x 0 0)).rows m)
       × (row_combination ring (transposed (column_steps x 1 1)).rows u.terms
@@ -372,6 +371,7 @@ module _ (ring : Ring) (maps : ℕ → Matrix) (x : CartanEilenberg) (prime : Is
             (over K refl refl K-matrix),
         subst (λ ds. IsVector ring (map neg_ℤ ds) (combined_rows ring (transposed W).rows f)) W-degrees
             (over W refl refl W-matrix),
+        ap (λ (v : Vector). v.degree) s.value,
         λ i. record { degree = ap (λ (v : Vector). v.degree) s.value i; terms = here i },
         next,
       )

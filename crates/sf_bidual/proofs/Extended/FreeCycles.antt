@@ -18,15 +18,10 @@ use Rattle.sf_presented.proofs.Composites.{combined-matrix_product}
 use Rattle.sf_homotopy.specs.Exactness.{IsExactPair}
 use Rattle.sf_homotopy.proofs.Exactness.Spans.{coefficients_of, span_rows}
 use Rattle.sf_bidual.specs.CartanEilenberg.{CartanEilenberg, IsCartanEilenberg, IsCochainComplex, cycle_steps}
+use Rattle.sf_bidual.specs.FactorLaws.{IsBasisOfCycles}
 use Rattle.sf_bidual.proofs.Columns.Laws.{cycle-rings, resolves_cycles}
 use Rattle.sf_bidual.proofs.Extended.Cancelling.{equal_coefficients}
 use Rattle.sf_bidual.proofs.Rows.TransposedColumns.{transposed_exact_at}
-
--- g is a basis of the cycles Z(1)
-pub record IsBasisOfCycles (ring : Ring) (maps : ℕ → Matrix) (g : List Vector) : Type 0 where
-  pub matrix : IsMatrix (matrix_of ring (row_degrees (maps 1)) g)
-  pub spans : (v : Vector) → IsSyzygy (maps 1) v ↔ InSpan (matrix_of ring (row_degrees (maps 1)) g) v
-  pub free : (v : Vector) → IsSyzygy (matrix_of ring (row_degrees (maps 1)) g) v → v.terms ≡ []
 
 module _ (ring : Ring) (maps : ℕ → Matrix) (x : CartanEilenberg) (prime : IsOverField ring)
     (complex : IsCochainComplex ring maps) (h : IsCartanEilenberg ring maps x) (g : List Vector)

@@ -22,9 +22,10 @@ use Rattle.sf_blocks.proofs.MatrixSums.SumProducts.{row_combination-zeros}
 use Rattle.sf_blocks.proofs.MatrixSums.SumTransposes.{transposed-zero}
 use Rattle.sf_blocks.proofs.TwoByTwo.ZeroParts.{IsZeroMatrix-product_second, IsZeroMatrix-zero_matrix, row_at-zero}
 use Rattle.sf_bidual.specs.CartanEilenberg.{CartanEilenberg, IsCartanEilenberg, IsCochainComplex, column_degrees, column_steps, cycle_degrees, cycle_steps, horizontal_step, widened}
+use Rattle.sf_bidual.specs.FactorLaws.{IsBasisOfCycles}
 use Rattle.sf_bidual.proofs.Columns.Laws.{boundary-rings, boundary-target, column-rings, column_degrees-steps, cycle-rings, cycle_degrees-steps, inner-degrees, inner_horseshoe, outer-degrees, outer_horseshoe, resolves_cycles, resolves_terms}
 use Rattle.sf_bidual.proofs.Extended.Cancelling.{cancel, equal_coefficients}
-use Rattle.sf_bidual.proofs.Extended.FreeCycles.{IsBasisOfCycles, Q, Q-degrees, Q-matrix, Q-product, transposed-cycles}
+use Rattle.sf_bidual.proofs.Extended.FreeCycles.{Q, Q-degrees, Q-matrix, Q-product, transposed-cycles}
 use Rattle.sf_bidual.proofs.HorizontalMaps.Squares.{IsMatrix-horizontal, inner_unit, inner_unit-matrix, inner_unit-degrees, row_degrees-horizontal, unit, unit-degrees}
 use Rattle.sf_bidual.proofs.HorizontalMaps.Widened.{IsMatrix-widened, product-widened, row_degrees-widened, widened-stacked, widened-triangle}
 use Rattle.sf_bidual.proofs.Horseshoes.Exactness.{AreTriangle-horseshoe}

@@ -46,7 +46,7 @@ module _ (relations : Matrix) (n : ℕ) (steps : ℕ → Matrix) (x : CartanEile
   e = bidual_augmentation relations.ring n x
 
   -- B(0) is the module 0
-  no_boundaries : (x.boundaries 0 0).rows ≡ []
+  pub no_boundaries : (x.boundaries 0 0).rows ≡ []
   no_boundaries =
       minimal_none relations.ring (InSpan (arriving relations.ring (dual_maps steps) 0)) IsZero
       (no_rows-zero relations.ring positive.modulus (row_degrees (dual_maps steps 0))) (x.boundaries 0 0).rows
