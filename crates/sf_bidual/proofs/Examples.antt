@@ -1,2 +1,4 @@
 -- The worked examples.
 pub mod OneVariable
+pub mod TwoVariables
+pub mod EmbeddedPoint

@@ -13,3 +13,4 @@ pub mod PurityLaws
 pub mod TorsionLaws
 pub mod PurityExample
 pub mod FactorLaws
+pub mod EmbeddedExample

@@ -42,7 +42,7 @@ use Rattle.sf_bidual.proofs.HighestColumns.HighestColumn.{no_highest_part, torsi
 use Rattle.sf_bidual.proofs.PurityParts.Parts.{purity_parts, rising}
 use Rattle.sf_bidual.proofs.PurityParts.Presented.{augmentation-degrees}
 
-relation-matrix : IsMatrix variable_relation
+pub relation-matrix : IsMatrix variable_relation
 relation-matrix = search (arith, ints)
 
 -- the reduced basis of the span of x
@@ -64,7 +64,7 @@ candidate = record {
   sorted = search arith;
 }
 
-variable-span : IsReducedBasis ones (InSpan variable_relation) (x_row ∷ [])
+pub variable-span : IsReducedBasis ones (InSpan variable_relation) (x_row ∷ [])
 variable-span =
     reduced-span variable_relation plain_ring relation-matrix graph_row
     (reduced_graph variable_relation plain_ring graph_row [] candidate)
@@ -124,7 +124,7 @@ generators_combined c h =
     λ i. record { degree = c.degree; terms = row_combination-identity (plain 101) plain_ring.modulus (pos 0 ∷ []) c h i }
 
 -- the module is presented by its generator and relation
-own_presentation : IsPresentation (plain 101) (pos 0 ∷ []) (IsAny (plain 101) (pos 0 ∷ [])) (InSpan variable_relation)
+pub own_presentation : IsPresentation (plain 101) (pos 0 ∷ []) (IsAny (plain 101) (pos 0 ∷ [])) (InSpan variable_relation)
     (identity (plain 101) (pos 0 ∷ [])) variable_relation
 own_presentation = record {
   generators_ring = refl;
