@@ -16,7 +16,8 @@ use Rattle.sf_algebra.proofs.Vectors.Rows.{row_combination-matrix_product, row_c
 use Rattle.sf_groebner.specs.Criterion.{HaveLeadsAtOnePosition, ReducesToZero}
 use Rattle.sf_groebner.specs.Examples.{term, vector}
 use Rattle.sf_groebner.specs.MinimalGenerators.{AreKept, IsInSum, matrix_of}
-use Rattle.sf_groebner.specs.Presentations.{IsZero}
+use Rattle.sf_groebner.specs.Homology.{IsAny}
+use Rattle.sf_groebner.specs.Presentations.{IsPresentation, IsRelation, IsZero}
 use Rattle.sf_groebner.specs.ReducedBases.{HasDividedLead, IsReducedBasis}
 use Rattle.sf_groebner.specs.ResolutionExamples.{x_row}
 use Rattle.sf_groebner.specs.Resolutions.{IsFirstStep, IsNextStep}
@@ -31,11 +32,27 @@ use Rattle.sf_presented.proofs.Composites.{combined-matrix_product}
 use Rattle.sf_presented.proofs.Steps.{spans-next_step}
 use Rattle.sf_blocks.specs.MatrixSums.{IsZeroMatrix}
 use Rattle.sf_homotopy.proofs.Exactness.ZeroProducts.{syzygies_of_span}
-use Rattle.sf_bidual.proofs.Examples.TwoVariables.{both-kept, both-next, both-span, both_at, syzygy_at}
+use Rattle.sf_bidual.proofs.Examples.TwoVariables.{both-kept, both-matrix, both-next, both-span, both_at, syzygy_at}
 use Rattle.sf_bidual.specs.FactorLaws.{IsFactorOfFirst}
 use Rattle.sf_algebra.proofs.GradedMatrices.MatrixProducts.{row_degrees-matrix_product}
 use Rattle.sf_algebra.proofs.Vectors.HomogeneousVectors.{IsVector-row_combination, row_combination-identity}
-use Rattle.sf_bidual.specs.EmbeddedExample.{embedded_relations, product_row, square_row}
+use Rattle.sf_groebner.proofs.Spanning.SameModules.{IsReducedBasis-same}
+use Rattle.sf_groebner.proofs.Spanning.SpanCombinations.{span_submodule}
+use Rattle.sf_groebner.proofs.Uniqueness.PresentedModules.{IsPresentation-same}
+use Rattle.sf_hilbert.proofs.WithoutRows.{minimal_none}
+use Rattle.sf_bidual.specs.Bidual.{IsBidualOf, dual_maps}
+use Rattle.sf_bidual.specs.CartanEilenberg.{CartanEilenberg, arriving}
+use Rattle.sf_bidual.specs.Purity.{IsOfPurity, IsPurityPart, IsPuritySubmodule}
+use Rattle.sf_bidual.specs.PurityExample.{variable_relation}
+use Rattle.sf_bidual.specs.TorsionLaws.{HasNoMapsToRing}
+use Rattle.sf_bidual.proofs.Bounded.Modules.{bidual_of_variables}
+use Rattle.sf_bidual.proofs.Examples.OneVariable.{own_presentation, variable-span}
+use Rattle.sf_bidual.proofs.Extended.Cancelling.{equal_coefficients}
+use Rattle.sf_bidual.proofs.Extended.Factored.{factored_part}
+use Rattle.sf_bidual.proofs.HighestColumns.HighestColumn.{no_highest_part, torsion_in_lower_columns}
+use Rattle.sf_bidual.proofs.PurityParts.Parts.{purity_parts, rising}
+use Rattle.sf_bidual.proofs.PurityParts.Presented.{augmentation-degrees}
+use Rattle.sf_bidual.specs.EmbeddedExample.{HasEmbeddedBidual, HasEmbeddedParts, HasEmbeddedSubmodule, HasNoEmbeddedMaps, RefusesWithoutPoint, embedded_relations, point_generator, point_relations, product_row, square_row}
 
 -- what no lead divides has no terms
 no_lead : (ts : List (Term Place)) → HasDividedLead [] ts → ts ≡ []
@@ -263,3 +280,169 @@ is_factor maps first next = record {
   product = (λ i. matrix_product factor (matrix_of (plain 101) (row_degrees (next i)) (basis_row ∷ [])))
       ∙ factor-product ∙ sym first;
 }
+
+-- x modulo the relations: its multiples, and what x times something is a relation
+dual_syzygies : IsReducedBasis ones (IsSyzygy dual_first) []
+dual_syzygies =
+    no_syzygies (plain 101) plain_ring (negsuc 1 ∷ negsuc 1 ∷ [])
+    (record { degree = pos 0; terms = term 1 0 (2 ∷ []) ∷ term 1 1 (1 ∷ 1 ∷ []) ∷ [] }) (search arith)
+
+generator-free : (v : Vector) → IsSyzygy point_generator v → v.terms ≡ []
+generator-free v h = no_lead v.terms ((no_syzygies (plain 101) plain_ring (pos 0 ∷ []) x_row (search arith)).complete v h)
+
+point-product : matrix_product point_relations point_generator ≡ embedded_relations
+unfolding combination combination_terms normal insert sum_mod product_mod
+point-product = refl
+
+relation-there : (c : Vector) → IsRelation point_generator (InSpan embedded_relations) c → InSpan point_relations c
+relation-there c h =
+    let a : Vector = h.inside.coefficients in
+    let value : combined point_generator (combined point_relations a) ≡ combined point_generator c =
+    sym (combined-matrix_product point_relations point_generator plain_ring refl a)
+    ∙ ap (λ (m : Matrix). combined m a) point-product
+    ∙ h.inside.value in
+    record {
+      coefficients = a;
+      homogeneous = h.inside.homogeneous;
+      value = equal_coefficients point_generator plain_ring generator-free (combined point_relations a) c
+          (IsVector-row_combination point_relations plain_ring.modulus (both-matrix (pos 1)) a h.inside.homogeneous)
+          h.coefficients value;
+    }
+
+relation-back : (c : Vector) → InSpan point_relations c → IsRelation point_generator (InSpan embedded_relations) c
+relation-back c s =
+    let a : Vector = s.coefficients in
+    record {
+      coefficients = (span_submodule point_relations plain_ring (both-matrix (pos 1))).module_like.vectors c s;
+      inside = record {
+        coefficients = a;
+        homogeneous = s.homogeneous;
+        value = ap (λ (m : Matrix). combined m a) (sym point-product)
+            ∙ combined-matrix_product point_relations point_generator plain_ring refl a
+            ∙ ap (combined point_generator) s.value;
+      };
+    }
+
+-- no relation has the degree of x
+no_low_relations : (v : Vector) → v.degree ≡ pos 1 → InSpan embedded_relations v → v.terms ≡ []
+no_low_relations v e h =
+    let c : Vector = h.coefficients in
+    let none : c.terms ≡ [] =
+    no_terms c.degree (ap (λ (w : Vector). w.degree) h.value ∙ e) c.terms h.homogeneous.homogeneous in
+    sym (ap (λ (w : Vector). w.terms) h.value)
+    ∙ ap (row_combination (plain 101) embedded_relations.rows) none
+    ∙ row_combination-nil (plain 101) plain_ring.modulus embedded_relations.rows
+  where
+    no_terms : (d : ℤ) → d ≡ pos 1 → (ts : List (Term Place)) → IsHomogeneous ones (pos 2 ∷ pos 2 ∷ []) d ts → ts ≡ []
+    no_terms d e [] h = refl
+    no_terms d e (t ∷ ts) h = absurd (first d e t.at.position t.at.monomial (h.0).0 (h.0).1)
+      where
+        first : (d : ℤ) → d ≡ pos 1 → (i : ℕ) (m : Monomial) → i < 2
+            → d ≡ generator_degree (pos 2 ∷ pos 2 ∷ []) i +ℤ pos (monomial_degree ones m) → ⊥
+        first d e zero m within same = absurd (omega (arith, ints))
+        first d e (suc zero) m within same = absurd (omega (arith, ints))
+        first d e (suc (suc i)) m within same = absurd (omega arith)
+
+generator-needed : IsInSum (plain 101) [] (InSpan embedded_relations) x_row → ⊥
+generator-needed h =
+    not_in_sum (plain 101) plain_ring (pos 0 ∷ []) [] tt (λ i j h k e. absurd (omega (arith, k))) x_row (λ e. cc)
+    (record {
+      first = h.first;
+      second = h.second;
+      in_module = no_low_relations h.first h.first_degree h.in_module;
+      in_span = h.in_span;
+      first_degree = h.first_degree;
+      second_degree = h.second_degree;
+      sum = h.sum;
+    })
+
+point : IsPresentation (plain 101) (pos 0 ∷ []) (InSpan variable_relation) (InSpan embedded_relations) point_generator
+    point_relations
+point = record {
+  generators_ring = refl;
+  generators_target = refl;
+  generators_minimal = record {
+    basis = x_row ∷ [];
+    reduced = variable-span;
+    kept = inr (generator-needed, ([], refl, refl));
+  };
+  relations_ring = refl;
+  relations_target = refl;
+  relations_minimal = record {
+    basis = point_relations.rows;
+    reduced =
+        IsReducedBasis-same ones (InSpan point_relations) (IsRelation point_generator (InSpan embedded_relations))
+        relation-back relation-there point_relations.rows (both-span (pos 1));
+    kept = both-kept (pos 1);
+  };
+}
+
+-- the two first steps of its resolution
+module _ (steps : ℕ → Matrix) (x : CartanEilenberg) (d : IsBidualOf embedded_relations 2 steps x) where
+  step_first : steps 0 ≡ embedded_relations
+  step_first = unique_first_step embedded_relations plain_ring embedded-matrix (steps 0) embedded_relations d.first own_step
+
+  step_next : steps 1 ≡ syzygies
+  step_next =
+      unique_next_step embedded_relations plain_ring (steps 1) syzygies
+      (subst (λ (m : Matrix). IsNextStep m (steps 1)) step_first (d.next 0)) syzygy_step
+
+  no_maps : HasNoMapsToRing x
+  no_maps =
+      minimal_none (plain 101) (IsSyzygy (dual_maps steps 0)) (InSpan (arriving (plain 101) (dual_maps steps) 0))
+      (λ v h. no_lead v.terms (dual_syzygies.complete v (subst (λ (m : Matrix). IsSyzygy (transposed m) v) step_first h)))
+      (x.homology 0 0).rows (d.cartan.homology 0).presentation.generators_minimal
+
+  -- the lowest column has the multiples of x
+  lowest : (m : Vector) → IsOfPurity (plain 101) 2 x 1 m ↔ InSpan variable_relation m
+  lowest =
+      factored_part embedded_relations 1 steps x field embedded-matrix d no_maps (basis_row ∷ []) (factor_row ∷ [])
+      (is_factor (dual_maps steps) (ap transposed step_first) (ap transposed step_next))
+
+  none : (m : Vector) → IsOfPurity (plain 101) 2 x 0 m ↔ InSpan embedded_relations m
+  none m = (rising embedded_relations 2 steps x field embedded-matrix d 0 0 (omega arith) m).1
+
+  parts : IsPurityPart embedded_relations 2 x 0 point_generator point_relations
+      × IsPurityPart embedded_relations 2 x 1 (identity (plain 101) (pos 0 ∷ [])) variable_relation
+      × IsPurityPart embedded_relations 2 x 2 (matrix_of (plain 101) (pos 0 ∷ []) []) (matrix_of (plain 101) [] [])
+  parts = (
+    IsPresentation-same (plain 101) (pos 0 ∷ []) (InSpan variable_relation) (InSpan embedded_relations) point_generator
+        point_relations point (IsOfPurity (plain 101) 2 x 1) (IsOfPurity (plain 101) 2 x 0)
+        (λ m. (lowest m).1) (λ m. (lowest m).0) (λ m. (none m).1) (λ m. (none m).0),
+    IsPresentation-same (plain 101) (pos 0 ∷ []) (IsAny (plain 101) (pos 0 ∷ [])) (InSpan variable_relation)
+        (identity (plain 101) (pos 0 ∷ [])) variable_relation own_presentation (IsOfPurity (plain 101) 2 x 2)
+        (IsOfPurity (plain 101) 2 x 1) (torsion_in_lower_columns embedded_relations 2 steps x field embedded-matrix d no_maps)
+        (λ m h. subst (λ ds. IsVector (plain 101) ds m)
+        (augmentation-degrees embedded_relations 2 steps x field embedded-matrix d) h.coefficients)
+        (λ m. (lowest m).1) (λ m. (lowest m).0),
+    no_highest_part embedded_relations 2 steps x field embedded-matrix d no_maps,
+  )
+
+  submodule : IsPuritySubmodule embedded_relations 2 x 1 point_generator point_relations
+  submodule =
+      IsPresentation-same (plain 101) (pos 0 ∷ []) (InSpan variable_relation) (InSpan embedded_relations) point_generator
+      point_relations point (IsOfPurity (plain 101) 2 x 1) (InSpan embedded_relations)
+      (λ m. (lowest m).1) (λ m. (lowest m).0) (λ m h. h) (λ m h. h)
+
+  refuses : IsPurityPart embedded_relations 2 x 1 (identity (plain 101) (pos 0 ∷ [])) embedded_relations → ⊥
+  refuses h =
+      let same =
+      ((purity_parts embedded_relations 2 steps x field embedded-matrix d 1).1 (identity (plain 101) (pos 0 ∷ []))
+      embedded_relations (identity (plain 101) (pos 0 ∷ [])) variable_relation h parts.1).1 in
+      absurd (omega (arith, ap (λ (m : Matrix). length m.rows) same))
+
+pub embedded-bidual : HasEmbeddedBidual
+embedded-bidual =
+    bidual_of_variables 2 (omega arith) (omega arith) embedded_relations field embedded-matrix (search arith)
+
+pub no-embedded_maps : HasNoEmbeddedMaps
+no-embedded_maps = no_maps
+
+pub embedded-parts : HasEmbeddedParts
+embedded-parts = parts
+
+pub embedded-submodule : HasEmbeddedSubmodule
+embedded-submodule = submodule
+
+pub refuses-without_point : RefusesWithoutPoint
+refuses-without_point = refuses
