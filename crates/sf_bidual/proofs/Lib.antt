@@ -8,5 +8,5 @@ pub mod PurityParts
 pub mod Existing
 pub mod Bounded
 pub mod HighestColumns
-pub mod Extended
+pub mod LowerColumns
 pub mod Examples

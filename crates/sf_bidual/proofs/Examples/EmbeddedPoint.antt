@@ -1,6 +1,6 @@
 -- The line with an embedded point: its first two steps, a basis of the cycles of its dual complex, and a factor before it, so
 -- what stands in the lowest column; then the presentations of the parts.
-use Rattle.std.proofs.Common.{◌≡◌, ◌↔◌, ◌<◌, ℕ, zero, suc, false, true, List, [], ◌∷◌, ◌++◌, length, inr, refl, sym, ap, ◌∙◌, subst, arith, ℤ, pos, negsuc, ◌+ℤ◌}
+use Rattle.std.proofs.Common.{◌≡◌, ◌↔◌, ◌<◌, ℕ, zero, suc, List, [], ◌∷◌, ◌++◌, length, inr, refl, sym, ap, ◌∙◌, subst, arith, ℤ, pos, negsuc, ◌+ℤ◌}
 use Rattle.std.proofs.lemmas.Int.{ints}
 use Rattle.std.specs.List.{AllByRecursion}
 use Rattle.sf_algebra.specs.Matrices.{IsMatrix, Matrix, degrees_of, row_degrees}
@@ -12,52 +12,47 @@ use Rattle.sf_algebra.specs.Rings.{IsRing, Ring, ones, plain}
 use Rattle.sf_algebra.specs.Sums.{insert, normal}
 use Rattle.sf_algebra.specs.Terms.{Term}
 use Rattle.sf_algebra.specs.Vectors.{IsHomogeneous, IsVector, Place, Vector, generator_degree}
+use Rattle.sf_algebra.proofs.GradedMatrices.MatrixProducts.{row_degrees-matrix_product}
+use Rattle.sf_algebra.proofs.Vectors.HomogeneousVectors.{IsVector-row_combination, row_combination-identity}
 use Rattle.sf_algebra.proofs.Vectors.Rows.{row_combination-matrix_product, row_combination-nil}
 use Rattle.sf_groebner.specs.Criterion.{HaveLeadsAtOnePosition, ReducesToZero}
 use Rattle.sf_groebner.specs.Examples.{term, vector}
-use Rattle.sf_groebner.specs.MinimalGenerators.{AreKept, IsInSum, matrix_of}
 use Rattle.sf_groebner.specs.Homology.{IsAny}
+use Rattle.sf_groebner.specs.MinimalGenerators.{IsInSum, matrix_of}
 use Rattle.sf_groebner.specs.Presentations.{IsPresentation, IsRelation, IsZero}
-use Rattle.sf_groebner.specs.ReducedBases.{HasDividedLead, IsReducedBasis}
+use Rattle.sf_groebner.specs.ReducedBases.{IsReducedBasis}
 use Rattle.sf_groebner.specs.ResolutionExamples.{x_row}
 use Rattle.sf_groebner.specs.Resolutions.{IsFirstStep, IsNextStep}
 use Rattle.sf_groebner.specs.Spans.{InSpan, IsGraphVector, IsSyzygy, combined, graph_degrees}
-use Rattle.sf_groebner.proofs.PairTheorems.MonicSums.{no_syzygies, not_in_sum}
+use Rattle.sf_groebner.proofs.PairTheorems.MonicSums.{not_in_sum}
 use Rattle.sf_groebner.proofs.PartsOfBases.GraphParts.{reduced-span, reduced-syzygies}
+use Rattle.sf_groebner.proofs.Spanning.SameModules.{IsReducedBasis-same}
+use Rattle.sf_groebner.proofs.Spanning.SpanCombinations.{span_submodule}
 use Rattle.sf_groebner.proofs.Uniqueness.Presentations.{unique_first_step, unique_next_step}
+use Rattle.sf_groebner.proofs.Uniqueness.PresentedModules.{IsPresentation-same}
 use Rattle.sf_groebner.proofs.WorkedExamples.GraphBases.{IsGraphCandidate, reduced_graph}
-use Rattle.sf_bicomplex.proofs.Examples.FreeSpots.{plain_ring}
-use Rattle.sf_bicomplex.proofs.Examples.TailPages.{field}
 use Rattle.sf_presented.proofs.Composites.{combined-matrix_product}
 use Rattle.sf_presented.proofs.Steps.{spans-next_step}
 use Rattle.sf_blocks.specs.MatrixSums.{IsZeroMatrix}
 use Rattle.sf_homotopy.proofs.Exactness.ZeroProducts.{syzygies_of_span}
-use Rattle.sf_bidual.proofs.Examples.TwoVariables.{both-kept, both-matrix, both-next, both-span, both_at, syzygy_at}
-use Rattle.sf_bidual.specs.FactorLaws.{IsFactorOfFirst}
-use Rattle.sf_algebra.proofs.GradedMatrices.MatrixProducts.{row_degrees-matrix_product}
-use Rattle.sf_algebra.proofs.Vectors.HomogeneousVectors.{IsVector-row_combination, row_combination-identity}
-use Rattle.sf_groebner.proofs.Spanning.SameModules.{IsReducedBasis-same}
-use Rattle.sf_groebner.proofs.Spanning.SpanCombinations.{span_submodule}
-use Rattle.sf_groebner.proofs.Uniqueness.PresentedModules.{IsPresentation-same}
 use Rattle.sf_hilbert.proofs.WithoutRows.{minimal_none}
+use Rattle.sf_bicomplex.proofs.Examples.FreeSpots.{plain_ring}
+use Rattle.sf_bicomplex.proofs.Examples.TailPages.{field}
 use Rattle.sf_bidual.specs.Bidual.{IsBidualOf, dual_maps}
 use Rattle.sf_bidual.specs.CartanEilenberg.{CartanEilenberg, arriving}
+use Rattle.sf_bidual.specs.EmbeddedExample.{HasEmbeddedBidual, HasEmbeddedParts, HasEmbeddedSubmodule, HasNoEmbeddedMaps, RefusesWithoutPoint, embedded_relations, point_generator, point_relations, product_row, square_row}
+use Rattle.sf_bidual.specs.FactorLaws.{IsFactorOfFirst}
 use Rattle.sf_bidual.specs.Purity.{IsOfPurity, IsPurityPart, IsPuritySubmodule}
 use Rattle.sf_bidual.specs.PurityExample.{variable_relation}
 use Rattle.sf_bidual.specs.TorsionLaws.{HasNoMapsToRing}
 use Rattle.sf_bidual.proofs.Bounded.Modules.{bidual_of_variables}
-use Rattle.sf_bidual.proofs.Examples.OneVariable.{own_presentation, variable-span}
-use Rattle.sf_bidual.proofs.Extended.Cancelling.{equal_coefficients}
-use Rattle.sf_bidual.proofs.Extended.Factored.{factored_part}
+use Rattle.sf_bidual.proofs.Examples.OneVariable.{monic_free, own_presentation, variable-span}
+use Rattle.sf_bidual.proofs.Examples.TwoVariables.{both-kept, both-matrix, both-next, both-span, both_at, syzygy_at}
 use Rattle.sf_bidual.proofs.HighestColumns.HighestColumn.{no_highest_part, torsion_in_lower_columns}
+use Rattle.sf_bidual.proofs.LowerColumns.Cancelling.{equal_coefficients}
+use Rattle.sf_bidual.proofs.LowerColumns.Factored.{factored_part}
 use Rattle.sf_bidual.proofs.PurityParts.Parts.{purity_parts, rising}
 use Rattle.sf_bidual.proofs.PurityParts.Presented.{augmentation-degrees}
-use Rattle.sf_bidual.specs.EmbeddedExample.{HasEmbeddedBidual, HasEmbeddedParts, HasEmbeddedSubmodule, HasNoEmbeddedMaps, RefusesWithoutPoint, embedded_relations, point_generator, point_relations, product_row, square_row}
-
--- what no lead divides has no terms
-no_lead : (ts : List (Term Place)) → HasDividedLead [] ts → ts ≡ []
-no_lead [] e = refl
-no_lead (t ∷ ts) e = let same : false ≡ true = e in absurd (cc)
 
 pub embedded-matrix : IsMatrix embedded_relations
 embedded-matrix = search (arith, ints)
@@ -164,7 +159,7 @@ basis-matrix : IsMatrix basis
 basis-matrix = search (arith, ints)
 
 basis-free : (v : Vector) → IsSyzygy basis v → v.terms ≡ []
-basis-free v h = no_lead v.terms ((no_syzygies (plain 101) plain_ring (negsuc 1 ∷ negsuc 1 ∷ []) basis_row (search arith)).complete v h)
+basis-free = monic_free (negsuc 1 ∷ negsuc 1 ∷ []) basis_row (search arith)
 
 basis-cycles : IsZeroMatrix (matrix_product basis dual_next)
 unfolding combination combination_terms normal insert sum_mod product_mod
@@ -281,14 +276,14 @@ is_factor maps first next = record {
       ∙ factor-product ∙ sym first;
 }
 
--- x modulo the relations: its multiples, and what x times something is a relation
-dual_syzygies : IsReducedBasis ones (IsSyzygy dual_first) []
-dual_syzygies =
-    no_syzygies (plain 101) plain_ring (negsuc 1 ∷ negsuc 1 ∷ [])
+dual-free : (v : Vector) → IsSyzygy dual_first v → v.terms ≡ []
+dual-free =
+    monic_free (negsuc 1 ∷ negsuc 1 ∷ [])
     (record { degree = pos 0; terms = term 1 0 (2 ∷ []) ∷ term 1 1 (1 ∷ 1 ∷ []) ∷ [] }) (search arith)
 
+-- x modulo the relations: what times x is a relation is a combination of x and y
 generator-free : (v : Vector) → IsSyzygy point_generator v → v.terms ≡ []
-generator-free v h = no_lead v.terms ((no_syzygies (plain 101) plain_ring (pos 0 ∷ []) x_row (search arith)).complete v h)
+generator-free = monic_free (pos 0 ∷ []) x_row (search arith)
 
 point-product : matrix_product point_relations point_generator ≡ embedded_relations
 unfolding combination combination_terms normal insert sum_mod product_mod
@@ -390,7 +385,7 @@ module _ (steps : ℕ → Matrix) (x : CartanEilenberg) (d : IsBidualOf embedded
   no_maps : HasNoMapsToRing x
   no_maps =
       minimal_none (plain 101) (IsSyzygy (dual_maps steps 0)) (InSpan (arriving (plain 101) (dual_maps steps) 0))
-      (λ v h. no_lead v.terms (dual_syzygies.complete v (subst (λ (m : Matrix). IsSyzygy (transposed m) v) step_first h)))
+      (λ v h. dual-free v (subst (λ (m : Matrix). IsSyzygy (transposed m) v) step_first h))
       (x.homology 0 0).rows (d.cartan.homology 0).presentation.generators_minimal
 
   -- the lowest column has the multiples of x

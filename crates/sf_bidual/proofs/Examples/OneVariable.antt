@@ -14,6 +14,7 @@ use Rattle.sf_algebra.specs.Terms.{Term}
 use Rattle.sf_algebra.specs.Vectors.{IsHomogeneous, IsVector, Place, Vector, generator_degree}
 use Rattle.sf_algebra.proofs.Vectors.HomogeneousVectors.{row_combination-identity}
 use Rattle.sf_algebra.proofs.Vectors.Rows.{row_combination-nil}
+use Rattle.sf_groebner.specs.Criterion.{IsMonicRow}
 use Rattle.sf_groebner.specs.Examples.{term, vector}
 use Rattle.sf_groebner.specs.Homology.{IsAny}
 use Rattle.sf_groebner.specs.MinimalGenerators.{AreKept, IsInSum, matrix_of}
@@ -41,6 +42,15 @@ use Rattle.sf_bidual.proofs.Bounded.Modules.{bidual_of_variables}
 use Rattle.sf_bidual.proofs.HighestColumns.HighestColumn.{no_highest_part, torsion_in_lower_columns}
 use Rattle.sf_bidual.proofs.PurityParts.Parts.{purity_parts, rising}
 use Rattle.sf_bidual.proofs.PurityParts.Presented.{augmentation-degrees}
+
+-- one monic row has no syzygies but 0
+pub monic_free : (target : List ℤ) (v : Vector) → IsMonicRow (plain 101) v → (c : Vector)
+    → IsSyzygy (matrix_of (plain 101) target (v ∷ [])) c → c.terms ≡ []
+monic_free target v monic c h = nothing c.terms ((no_syzygies (plain 101) plain_ring target v monic).complete c h)
+  where
+    nothing : (ts : List (Term Place)) → HasDividedLead [] ts → ts ≡ []
+    nothing [] e = refl
+    nothing (t ∷ ts) e = let same : false ≡ true = e in absurd (cc)
 
 pub relation-matrix : IsMatrix variable_relation
 relation-matrix = search (arith, ints)
@@ -153,15 +163,8 @@ own_presentation = record {
 abbrev dual_row : Vector
 dual_row = vector 0 (term 1 0 (1 ∷ []) ∷ [])
 
-dual_syzygies : IsReducedBasis ones (IsSyzygy (matrix_of (plain 101) (negsuc 0 ∷ []) (dual_row ∷ []))) []
-dual_syzygies = no_syzygies (plain 101) plain_ring (negsuc 0 ∷ []) dual_row (search arith)
-
 dual_zeros : (v : Vector) → IsSyzygy (transposed variable_relation) v → v.terms ≡ []
-dual_zeros v h = nothing v.terms (dual_syzygies.complete v h)
-  where
-    nothing : (ts : List (Term Place)) → HasDividedLead [] ts → ts ≡ []
-    nothing [] e = refl
-    nothing (t ∷ ts) e = let same : false ≡ true = e in absurd (cc)
+dual_zeros = monic_free (negsuc 0 ∷ []) dual_row (search arith)
 
 pub no-variable_maps : HasNoVariableMaps
 no-variable_maps steps x d =

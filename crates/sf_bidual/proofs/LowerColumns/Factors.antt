@@ -5,7 +5,7 @@ use Rattle.sf_algebra.specs.Matrices.{IsMatrix, Matrix, degrees_of, row_degrees}
 use Rattle.sf_algebra.specs.MatrixOperations.{IsComposable, identity, matrix_product, row_combination, stacked, transposed}
 use Rattle.sf_algebra.specs.Rings.{IsOverField, IsRing, Ring}
 use Rattle.sf_algebra.specs.Vectors.{IsVector, Vector}
-use Rattle.sf_algebra.proofs.GradedMatrices.Identities.{IsMatrix-identity, row_degrees-identity}
+use Rattle.sf_algebra.proofs.GradedMatrices.Identities.{IsMatrix-identity}
 use Rattle.sf_algebra.proofs.GradedMatrices.MatrixProducts.{IsMatrix-matrix_product, row_degrees-matrix_product}
 use Rattle.sf_algebra.proofs.GradedMatrices.ProductLaws.{matrix_product-assoc, matrix_product-identity_first, matrix_product-stacked}
 use Rattle.sf_algebra.proofs.GradedMatrices.Stacks.{IsMatrix-stacked, row_degrees-stacked}
@@ -22,15 +22,15 @@ use Rattle.sf_blocks.proofs.TwoByTwo.ZeroParts.{IsZeroMatrix-product_second, IsZ
 use Rattle.sf_homotopy.proofs.Exactness.ZeroProducts.{zero_products}
 use Rattle.sf_bidual.specs.CartanEilenberg.{CartanEilenberg, IsCartanEilenberg, IsCochainComplex, column_degrees, column_steps, cycle_degrees, cycle_steps, horizontal_step, widened}
 use Rattle.sf_bidual.specs.FactorLaws.{IsFactorOfFirst}
-use Rattle.sf_bidual.proofs.Columns.Laws.{boundary-rings, boundary-target, column-rings, column-target, column_degrees-steps, cycle-rings, cycle_degrees-steps, outer-degrees, outer_horseshoe, resolves_boundaries, resolves_cycles, resolves_terms}
-use Rattle.sf_bidual.proofs.Extended.Cancelling.{cancel, equal_coefficients}
-use Rattle.sf_bidual.proofs.Extended.FreeCycles.{Q, Q-degrees, Q-exact, Q-matrix, Q-product}
-use Rattle.sf_bidual.proofs.Extended.Restrictions.{E, combined-transposed, cycle_part-degrees, cycle_part-matrix, product-cycle_part, restricted}
+use Rattle.sf_bidual.proofs.Columns.Laws.{boundary-rings, boundary-target, column-rings, column-target, cycle-rings, cycle_degrees-steps, outer-degrees, outer_horseshoe, resolves_cycles, resolves_terms}
 use Rattle.sf_bidual.proofs.HighestColumns.Onto.{horizontal-unit}
-use Rattle.sf_bidual.proofs.HorizontalMaps.Squares.{IsMatrix-horizontal, horizontal-product, inner-start, inner_unit, inner_unit-degrees, inner_unit-matrix, row_degrees-horizontal, unit}
+use Rattle.sf_bidual.proofs.HorizontalMaps.Squares.{IsMatrix-horizontal, horizontal-product, inner-start, inner_unit, inner_unit-matrix, unit}
 use Rattle.sf_bidual.proofs.HorizontalMaps.Widened.{widened-stacked}
 use Rattle.sf_bidual.proofs.Horseshoes.Exactness.{AreTriangle-horseshoe, IsMatrix-side}
-use Rattle.sf_bidual.proofs.Horseshoes.Lifts.{IsMatrix-lifts, matrix_product-lifts, row_degrees-lifts}
+use Rattle.sf_bidual.proofs.Horseshoes.Lifts.{IsMatrix-lifts, matrix_product-lifts}
+use Rattle.sf_bidual.proofs.LowerColumns.Cancelling.{cancel, equal_coefficients}
+use Rattle.sf_bidual.proofs.LowerColumns.FreeCycles.{Q, Q-degrees, Q-exact, Q-matrix, Q-product}
+use Rattle.sf_bidual.proofs.LowerColumns.Restrictions.{E, combined-transposed, cycle_part-degrees, cycle_part-matrix, product-cycle_part, restricted}
 use Rattle.sf_bidual.proofs.Rows.TransposedColumns.{transposed_one_to_one}
 
 module _ (ring : Ring) (maps : ℕ → Matrix) (x : CartanEilenberg) (prime : IsOverField ring)

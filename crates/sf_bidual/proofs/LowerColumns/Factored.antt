@@ -1,5 +1,5 @@
 -- The vectors below the two highest columns are the span of the transposed factor.
-use Rattle.std.proofs.Common.{◌≡◌, ◌↔◌, ◌-◌, ◌<◌, ℕ, suc, List, [], map, refl, sym, ◌∙◌, ap, subst, arith, ℤ, pos, neg_ℤ, ◌+ℤ◌, ◌-ℤ◌}
+use Rattle.std.proofs.Common.{◌≡◌, ◌-◌, ℕ, suc, List, [], map, refl, sym, ◌∙◌, ap, subst, arith, ℤ, pos, neg_ℤ, ◌+ℤ◌, ◌-ℤ◌}
 use Rattle.std.proofs.lemmas.Int.{ints}
 use Rattle.sf_algebra.specs.Matrices.{IsMatrix, Matrix, degrees_of, row_degrees}
 use Rattle.sf_algebra.specs.MatrixOperations.{negated, row_combination, transposed}
@@ -20,16 +20,16 @@ use Rattle.sf_algebra.proofs.Vectors.Rows.{IsCanonical-row_combination}
 use Rattle.sf_algebra.proofs.Vectors.VectorGroups.{vectors, vectors_of_degree}
 use Rattle.sf_algebra.proofs.Vectors.VectorProps.{same_canonical, vector_unique}
 use Rattle.sf_groebner.specs.MinimalGenerators.{matrix_of}
-use Rattle.sf_groebner.specs.Spans.{InSpan, combined, combined_rows}
+use Rattle.sf_groebner.specs.Spans.{InSpan}
 use Rattle.sf_groebner.proofs.Spanning.Spans.{span_module}
-use Rattle.sf_chase.specs.ColumnPages.{CyclesBelow, ImagesModulo, IsInPart}
+use Rattle.sf_chase.specs.ColumnPages.{CyclesBelow, ImagesModulo}
 use Rattle.sf_chase.specs.Columns.{Columned}
 use Rattle.sf_chase.specs.Filtrations.{NearImageOf}
 use Rattle.sf_bicomplex.specs.Bicomplexes.{Bicomplex, IsBicomplex}
 use Rattle.sf_bicomplex.specs.TotalColumns.{place, total_degrees}
 use Rattle.sf_bicomplex.proofs.Filtrations.PartVectors.{combination, part-same}
 use Rattle.sf_bicomplex.proofs.TotalComplexes.TotalGroups.{total_group, total_image}
-use Rattle.sf_bidual.specs.Bidual.{IsBidualOf, bidual, bidual_across, bidual_augmentation, bidual_degrees, bidual_down, dual_across, dual_degrees, dual_down, dual_maps}
+use Rattle.sf_bidual.specs.Bidual.{IsBidualOf, bidual, bidual_across, bidual_degrees, bidual_down, dual_across, dual_degrees, dual_down, dual_maps}
 use Rattle.sf_bidual.specs.CartanEilenberg.{CartanEilenberg, IsCochainComplex, column_degrees, column_steps, horizontal_step}
 use Rattle.sf_bidual.specs.FactorLaws.{HasFactoredPart, IsFactorOfFirst}
 use Rattle.sf_bidual.specs.Purity.{IsOfPurity}
@@ -38,10 +38,10 @@ use Rattle.sf_bidual.proofs.Augmented.FreeTotals.{relation-zero}
 use Rattle.sf_bidual.proofs.Augmented.Homology.{set-terms}
 use Rattle.sf_bidual.proofs.BidualSpots.Bicomplex.{dual_complex}
 use Rattle.sf_bidual.proofs.BidualSpots.Homology.{augmentation, cycles_of_vectors, degrees, dual, h, k, over, same_augmentation}
-use Rattle.sf_bidual.proofs.Extended.Factors.{factor_spans, spanned_by_factor}
-use Rattle.sf_bidual.proofs.Extended.TwoColumns.{InLowerPart, lower-back, lower-there}
 use Rattle.sf_bidual.proofs.HighestColumns.HighestColumn.{no_boundaries}
 use Rattle.sf_bidual.proofs.HorizontalMaps.Squares.{IsMatrix-horizontal}
+use Rattle.sf_bidual.proofs.LowerColumns.Factors.{factor_spans, spanned_by_factor}
+use Rattle.sf_bidual.proofs.LowerColumns.TwoColumns.{InLowerPart, lower-back, lower-there}
 use Rattle.sf_bidual.proofs.PurityParts.Presented.{augmentation-degrees, augmentation-matrix}
 
 -- a combination and one of negative rows add up to zero exactly where the two combinations are equal
@@ -279,8 +279,11 @@ module _ (relations : Matrix) (p : ℕ) (steps : ℕ → Matrix) (x : CartanEile
         subst (λ y. IsVector ring ds (record { degree = y; terms = v.terms })) e
         (subst (λ cs. IsVector ring cs v) (sym f) hv) in
         lower_back m vector (
-          (u.terms, over_degree u (place b above (suc p)).target (map neg_ℤ (column_degrees x 1 0))
-              (ap (λ (v : Vector). v.degree) found.5) highest_degrees found.2),
+          (
+            u.terms,
+            over_degree u (place b above (suc p)).target (map neg_ℤ (column_degrees x 1 0))
+                (ap (λ (v : Vector). v.degree) found.5) highest_degrees found.2,
+          ),
           (w.terms, over_degree w (place b above p).target (map neg_ℤ (column_degrees x 2 1)) found.4 next_degrees found.3),
           ap (λ (a : Matrix). row_combination ring a.rows u.terms) highest_down
               ∙ ap (λ (v : Vector). v.terms) found.5

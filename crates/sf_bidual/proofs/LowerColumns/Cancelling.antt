@@ -1,14 +1,13 @@
 -- Matrices without syzygies may be cancelled behind others.
-use Rattle.std.proofs.Common.{◌≡◌, ℕ, List, [], ◌∷◌, map, refl, sym, ◌∙◌, ap, subst, ℤ}
+use Rattle.std.proofs.Common.{◌≡◌, List, [], ◌∷◌, map, refl, sym, ◌∙◌, ap, subst, ℤ}
 use Rattle.std.specs.List.{AllByRecursion}
 use Rattle.sf_algebra.specs.Matrices.{IsMatrix, Matrix, row_degrees}
 use Rattle.sf_algebra.specs.MatrixOperations.{matrix_product, row_combination}
 use Rattle.sf_algebra.specs.Rings.{IsRing, Ring}
-use Rattle.sf_algebra.specs.Terms.{Term}
 use Rattle.sf_algebra.specs.VectorOperations.{row_difference, vector_difference}
-use Rattle.sf_algebra.specs.Vectors.{IsVector, Place, Vector}
-use Rattle.sf_algebra.proofs.Operators.Groups.{difference-equal}
+use Rattle.sf_algebra.specs.Vectors.{IsVector, Vector}
 use Rattle.sf_algebra.proofs.Multiplying.Keys.{place_keys}
+use Rattle.sf_algebra.proofs.Operators.Groups.{difference-equal}
 use Rattle.sf_algebra.proofs.Terms.Negatives.{add-negative}
 use Rattle.sf_algebra.proofs.Vectors.Rows.{IsCanonical-row_combination}
 use Rattle.sf_algebra.proofs.Vectors.VectorGroups.{vectors_of_degree}

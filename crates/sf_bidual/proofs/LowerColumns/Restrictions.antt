@@ -1,36 +1,31 @@
 -- What is a map of column 1 that goes on horizontally: restricted to the cycles it is a map of Z(1), so on the boundaries it
 -- is one that extends to the cycles.
-use Rattle.std.proofs.Common.{◌≡◌, ◌<◌, ℕ, suc, List, [], ◌++◌, map, refl, sym, ◌∙◌, ap, subst, arith, ℤ, neg_ℤ}
+use Rattle.std.proofs.Common.{◌≡◌, ◌<◌, ℕ, suc, List, [], map, refl, sym, ◌∙◌, ap, subst, neg_ℤ}
 use Rattle.sf_algebra.specs.Matrices.{IsMatrix, Matrix, degrees_of, row_degrees}
-use Rattle.sf_algebra.specs.MatrixOperations.{IsComposable, identity, matrix_product, row_combination, stacked, transposed}
+use Rattle.sf_algebra.specs.MatrixOperations.{identity, matrix_product, row_combination, transposed}
 use Rattle.sf_algebra.specs.Rings.{IsOverField, IsRing, Ring}
 use Rattle.sf_algebra.specs.Terms.{Term}
 use Rattle.sf_algebra.specs.Vectors.{IsVector, Place, Vector}
 use Rattle.sf_algebra.proofs.GradedMatrices.Identities.{IsMatrix-identity, row_degrees-identity}
-use Rattle.sf_algebra.proofs.GradedMatrices.MatrixProducts.{IsMatrix-matrix_product}
-use Rattle.sf_algebra.proofs.GradedMatrices.ProductLaws.{matrix_product-assoc, matrix_product-identity, matrix_product-identity_first}
+use Rattle.sf_algebra.proofs.GradedMatrices.ProductLaws.{matrix_product-identity, matrix_product-identity_first}
 use Rattle.sf_algebra.proofs.GradedMatrices.TransposedProducts.{transposed-matrix_product}
 use Rattle.sf_algebra.proofs.GradedMatrices.Transposes.{IsMatrix-transposed, row_degrees-transposed}
 use Rattle.sf_algebra.proofs.Monomials.Weights.{field_ring}
 use Rattle.sf_algebra.proofs.Vectors.HomogeneousVectors.{IsVector-row_combination}
 use Rattle.sf_algebra.proofs.Vectors.Rows.{row_combination-matrix_product}
-use Rattle.sf_groebner.specs.MinimalGenerators.{matrix_of}
-use Rattle.sf_groebner.specs.Spans.{InSpan, IsSyzygy, combined, combined_rows}
+use Rattle.sf_groebner.specs.Spans.{IsSyzygy, combined_rows}
 use Rattle.sf_blocks.specs.MatrixSums.{IsZeroMatrix, zero_matrix}
 use Rattle.sf_blocks.proofs.MatrixSums.SumGroups.{IsMatrix-zero_matrix, row_degrees-zero_matrix}
 use Rattle.sf_blocks.proofs.MatrixSums.SumProducts.{row_combination-zeros}
-use Rattle.sf_blocks.proofs.MatrixSums.SumTransposes.{transposed-zero}
 use Rattle.sf_blocks.proofs.TwoByTwo.ZeroParts.{IsZeroMatrix-product_second, IsZeroMatrix-zero_matrix, row_at-zero}
 use Rattle.sf_bidual.specs.CartanEilenberg.{CartanEilenberg, IsCartanEilenberg, IsCochainComplex, column_degrees, column_steps, cycle_degrees, cycle_steps, horizontal_step, widened}
 use Rattle.sf_bidual.specs.FactorLaws.{IsBasisOfCycles}
-use Rattle.sf_bidual.proofs.Columns.Laws.{boundary-rings, boundary-target, column-rings, column_degrees-steps, cycle-rings, cycle_degrees-steps, inner-degrees, inner_horseshoe, outer-degrees, outer_horseshoe, resolves_cycles, resolves_terms}
-use Rattle.sf_bidual.proofs.Extended.Cancelling.{cancel, equal_coefficients}
-use Rattle.sf_bidual.proofs.Extended.FreeCycles.{Q, Q-degrees, Q-matrix, Q-product, transposed-cycles}
-use Rattle.sf_bidual.proofs.HorizontalMaps.Squares.{IsMatrix-horizontal, inner_unit, inner_unit-matrix, inner_unit-degrees, row_degrees-horizontal, unit, unit-degrees}
+use Rattle.sf_bidual.proofs.Columns.Laws.{boundary-target, column-rings, column_degrees-steps, cycle-rings, cycle_degrees-steps, outer-degrees, outer_horseshoe, resolves_cycles, resolves_terms}
+use Rattle.sf_bidual.proofs.HorizontalMaps.Squares.{IsMatrix-horizontal, row_degrees-horizontal, unit, unit-degrees}
 use Rattle.sf_bidual.proofs.HorizontalMaps.Widened.{IsMatrix-widened, product-widened, row_degrees-widened, widened-stacked, widened-triangle}
 use Rattle.sf_bidual.proofs.Horseshoes.Exactness.{AreTriangle-horseshoe}
-use Rattle.sf_bidual.proofs.Horseshoes.Lifts.{IsMatrix-lifts, matrix_product-lifts, row_degrees-lifts}
-use Rattle.sf_bidual.proofs.Rows.TransposedColumns.{transposed_one_to_one, transposed_zero}
+use Rattle.sf_bidual.proofs.LowerColumns.FreeCycles.{Q, transposed-cycles}
+use Rattle.sf_bidual.proofs.Rows.TransposedColumns.{transposed_zero}
 
 -- a vector times the transpose of a product
 pub combined-transposed : (ring : Ring) → 0 < ring.modulus → (a b : Matrix) → a.ring ≡ ring → b.ring ≡ ring

@@ -1,6 +1,6 @@
 -- Cycles that are a free module: with a basis g of Z(1), the resolution of Z(1) in column 1 goes on to the free module of the
 -- degrees of g, so its transposes are exact.
-use Rattle.std.proofs.Common.{◌≡◌, ◌↔◌, ◌<◌, ℕ, zero, suc, List, [], map, refl, sym, ◌∙◌, ap, subst, arith, ℤ}
+use Rattle.std.proofs.Common.{◌≡◌, ◌↔◌, ◌<◌, ℕ, zero, suc, List, map, refl, sym, ◌∙◌, ap, subst}
 use Rattle.std.specs.List.{AllByRecursion}
 use Rattle.sf_algebra.specs.Matrices.{IsMatrix, Matrix, degrees_of, row_degrees}
 use Rattle.sf_algebra.specs.MatrixOperations.{matrix_product, row_combination, transposed}
@@ -20,7 +20,7 @@ use Rattle.sf_homotopy.proofs.Exactness.Spans.{coefficients_of, span_rows}
 use Rattle.sf_bidual.specs.CartanEilenberg.{CartanEilenberg, IsCartanEilenberg, IsCochainComplex, cycle_steps}
 use Rattle.sf_bidual.specs.FactorLaws.{IsBasisOfCycles}
 use Rattle.sf_bidual.proofs.Columns.Laws.{cycle-rings, resolves_cycles}
-use Rattle.sf_bidual.proofs.Extended.Cancelling.{equal_coefficients}
+use Rattle.sf_bidual.proofs.LowerColumns.Cancelling.{equal_coefficients}
 use Rattle.sf_bidual.proofs.Rows.TransposedColumns.{transposed_exact_at}
 
 module _ (ring : Ring) (maps : ℕ → Matrix) (x : CartanEilenberg) (prime : IsOverField ring)

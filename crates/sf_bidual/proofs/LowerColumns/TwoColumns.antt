@@ -1,11 +1,9 @@
 -- What is set into the highest column is in the part below the two highest ones exactly where it is dv of an element there,
 -- and dh of this and dv of one in the next lower column cancel.
-use Rattle.std.proofs.Common.{◌≡◌, ◌<◌, ℕ, suc, List, [], refl, sym, ◌∙◌, ap, subst, arith, ℤ, pos, ◌-ℤ◌}
-use Rattle.sf_algebra.specs.MatrixOperations.{row_combination}
+use Rattle.std.proofs.Common.{◌≡◌, ◌<◌, ℕ, suc, List, [], sym, ◌∙◌, ap, subst, arith, ℤ, pos, ◌-ℤ◌}
 use Rattle.sf_algebra.specs.Matrices.{Matrix}
-use Rattle.sf_algebra.specs.Terms.{Term}
+use Rattle.sf_algebra.specs.MatrixOperations.{row_combination}
 use Rattle.sf_algebra.specs.VectorOperations.{row_sum}
-use Rattle.sf_algebra.specs.Vectors.{Place, Vector}
 use Rattle.sf_algebra.proofs.Operators.Groups.{difference-equal, difference-plus, difference-zero, map-difference, map-zero, minus-difference, unit_first}
 use Rattle.sf_algebra.proofs.Vectors.RowSums.{row_sum-comm, row_sum-nil}
 use Rattle.sf_algebra.proofs.Vectors.Rows.{IsCanonical-row_combination}
@@ -17,7 +15,7 @@ use Rattle.sf_bicomplex.specs.Bicomplexes.{Bicomplex, IsBicomplex}
 use Rattle.sf_bicomplex.specs.TotalColumns.{column_start, place, total_degrees}
 use Rattle.sf_bicomplex.proofs.Columns.ColumnParts.{part_terms-behind}
 use Rattle.sf_bicomplex.proofs.TotalComplexes.TotalGroups.{total-differential, total_column, total_group, total_image}
-use Rattle.sf_bidual.proofs.Augmented.Augmentations.{IsAugmentedBy, all_below, in_place, inside, set, set-augmentation, zero_after}
+use Rattle.sf_bidual.proofs.Augmented.Augmentations.{IsAugmentedBy, all_below, in_place, inside, set, zero_after}
 use Rattle.sf_bidual.proofs.Augmented.Flats.{column_terms, dh_terms, dv_terms, higher_none, image_here, image_left, image_terms, no_dh}
 use Rattle.sf_bidual.proofs.Augmented.FreeTotals.{relation-zero, zero-relation}
 
