@@ -1,6 +1,6 @@
 -- The purity filtration of a line with an embedded point: R(0)/(x^2, x y) over two variables, modulo 101. Its zeros are the
--- line x = 0, and at the origin a point is embedded. The lowest column, -2, has this point: x, which x and y take to 0. Column
--- -1 has the line R(0)/x, and column 0 nothing. (The example is this project's own.)
+-- line x = 0, in which a point is embedded at the origin. The lowest column, -2, has this point: x, which x and y take to 0.
+-- Column -1 has the line R(0)/x, and column 0 nothing. (The example is this project's own.)
 use Rattle.std.specs.Prelude.{ℕ, [], ◌∷◌, pos}
 use Rattle.sf_algebra.specs.Matrices.{Matrix}
 use Rattle.sf_algebra.specs.MatrixOperations.{identity}

@@ -1,7 +1,7 @@
--- Parts of a module that has no maps to the ring but 0, where the cycles of its dual complex at place 1 are a free module: the
--- first dual map has a factor before their basis, and this is what stands below the two highest columns. So of the relations
--- f g1, .., f gr of one generator, where g1, .., gr have no common factor, it is f. (Barakat, "Spectral Filtrations via
--- Generalized Morphisms", for the filtration; the law is this project's own.)
+-- A module that has no maps to the ring but 0, where the cycles of its dual complex at place 1 are a free module: the first
+-- dual map is some matrix times a basis of them, and the transpose of that matrix spans what stands below the two highest
+-- columns. So of one generator with the relations f g1, .., f gr, where g1, .., gr have no common factor, it is spanned by f.
+-- (Barakat, "Spectral Filtrations via Generalized Morphisms", has the filtration; the law is this project's own.)
 use Rattle.std.specs.Prelude.{◌≡◌, ◌↔◌, ℕ, suc, List, []}
 use Rattle.sf_algebra.specs.Matrices.{IsMatrix, Matrix, degrees_of, row_degrees}
 use Rattle.sf_algebra.specs.MatrixOperations.{matrix_product, transposed}

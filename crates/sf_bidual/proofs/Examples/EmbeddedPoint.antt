@@ -1,5 +1,5 @@
--- The line with an embedded point: its first two steps, a basis of the cycles of its dual complex, and a factor before it, so
--- what stands in the lowest column; then the presentations of the parts.
+-- The line with an embedded point: its first two steps, a basis of the cycles of its dual complex, and a factor before it,
+-- so what stands in the lowest column; then the presentations of the parts.
 use Rattle.std.proofs.Common.{◌≡◌, ◌↔◌, ◌<◌, ℕ, zero, suc, List, [], ◌∷◌, ◌++◌, length, inr, refl, sym, ap, ◌∙◌, subst, arith, ℤ, pos, negsuc, ◌+ℤ◌}
 use Rattle.std.proofs.lemmas.Int.{ints}
 use Rattle.std.specs.List.{AllByRecursion}

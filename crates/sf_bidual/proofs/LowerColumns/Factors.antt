@@ -1,5 +1,6 @@
--- Where column 0 has no cycles, and the first map of the complex is some matrix times a basis of the cycles Z(1), a vector goes
--- with a map of column 1 that goes on horizontally exactly where it is in the span of the transpose of that matrix.
+-- Where column 0 has no cycles, and the first map of the complex is some matrix times a basis of the cycles Z(1), a vector
+-- comes from a map of column 1 that goes nowhere but horizontally exactly where it is in the span of the transpose of that
+-- matrix.
 use Rattle.std.proofs.Common.{◌≡◌, ◌<◌, ℕ, List, [], ◌++◌, map, refl, sym, ◌∙◌, ap, subst, ℤ, neg_ℤ}
 use Rattle.sf_algebra.specs.Matrices.{IsMatrix, Matrix, degrees_of, row_degrees}
 use Rattle.sf_algebra.specs.MatrixOperations.{IsComposable, identity, matrix_product, row_combination, stacked, transposed}

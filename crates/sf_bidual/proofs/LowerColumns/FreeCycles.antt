@@ -1,5 +1,5 @@
--- Cycles that are a free module: with a basis g of Z(1), the resolution of Z(1) in column 1 goes on to the free module of the
--- degrees of g, so its transposes are exact.
+-- Cycles that are a free module: with a basis g of Z(1), the resolution of Z(1) in column 1 goes on to the free module of
+-- the degrees of g, so its transposes are exact.
 use Rattle.std.proofs.Common.{◌≡◌, ◌↔◌, ◌<◌, ℕ, zero, suc, List, map, refl, sym, ◌∙◌, ap, subst}
 use Rattle.std.specs.List.{AllByRecursion}
 use Rattle.sf_algebra.specs.Matrices.{IsMatrix, Matrix, degrees_of, row_degrees}

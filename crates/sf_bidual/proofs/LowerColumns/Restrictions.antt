@@ -1,5 +1,4 @@
--- What is a map of column 1 that goes on horizontally: restricted to the cycles it is a map of Z(1), so on the boundaries it
--- is one that extends to the cycles.
+-- A map of column 1 to the ring that goes nowhere but horizontally is, restricted to the cycles, a map of Z(1).
 use Rattle.std.proofs.Common.{◌≡◌, ◌<◌, ℕ, suc, List, [], map, refl, sym, ◌∙◌, ap, subst, neg_ℤ}
 use Rattle.sf_algebra.specs.Matrices.{IsMatrix, Matrix, degrees_of, row_degrees}
 use Rattle.sf_algebra.specs.MatrixOperations.{identity, matrix_product, row_combination, transposed}

@@ -1,5 +1,5 @@
--- What is set into the highest column is in the part below the two highest ones exactly where it is dv of an element there,
--- and dh of this and dv of one in the next lower column cancel.
+-- What is set into the highest column is in the part below the two highest ones exactly where it is dv of an element
+-- there, and dh of this and dv of one in the next lower column cancel.
 use Rattle.std.proofs.Common.{◌≡◌, ◌<◌, ℕ, suc, List, [], sym, ◌∙◌, ap, subst, arith, ℤ, pos, ◌-ℤ◌}
 use Rattle.sf_algebra.specs.Matrices.{Matrix}
 use Rattle.sf_algebra.specs.MatrixOperations.{row_combination}
