@@ -11,6 +11,6 @@ pub mod AugmentationLaws
 pub mod Purity
 pub mod PurityLaws
 pub mod TorsionLaws
-pub mod PurityExample
 pub mod FactorLaws
+pub mod PurityExample
 pub mod EmbeddedExample
