@@ -3,8 +3,10 @@ ghost use Rattle.sf_algebra.specs.Monomials.{from_exponents};
 ghost use Rattle.sf_algebra.specs.Rings.{plain};
 
 use crate::basis::{graph_basis, graph_plain};
+use crate::counted::counted_rows;
+use crate::graph_rows::graph_rows;
 use sf_field::{Modulus, OutOfMemory};
-use sf_matrix::{BaseFault, Free, Graph, List, Matrix, Vector};
+use sf_matrix::{BaseFault, Free, Graph, List, Matrix, Vector, has_small_size};
 use sf_mono::Mono;
 use sf_pairs::{FirstStrategy, Strategy, Ticks};
 use std::alloc::Global;
@@ -36,6 +38,20 @@ fn quadrics(alloc: Global) -> Result<Matrix, Fail> {
     let mut rows = no_rows(alloc)?;
     rows.push_row(square)?;
     rows.push_row(sum)?;
+    Ok(rows)
+}
+
+/// The rows x^2 + y^2 and x^2 + x y, of degree 2: the lead of their difference is a term of the second one.
+fn overlapping(alloc: Global) -> Result<Matrix, Fail> {
+    let mut first = Vector::zero(alloc, 2);
+    first.push(0, monomial(2, 0)?, 1)?;
+    first.push(0, monomial(0, 2)?, 1)?;
+    let mut second = Vector::zero(alloc, 2);
+    second.push(0, monomial(2, 0)?, 1)?;
+    second.push(0, monomial(1, 1)?, 1)?;
+    let mut rows = no_rows(alloc)?;
+    rows.push_row(first)?;
+    rows.push_row(second)?;
     Ok(rows)
 }
 
@@ -127,5 +143,21 @@ fn both_ways_give_one_basis(rt: HostRuntime) -> Result<(), Fail> {
     assert_eq!(rt; by_degrees.basis, by_pairs.basis);
     assert_eq!(rt; by_degrees.coefficients, by_pairs.coefficients);
     assert_eq!(rt; by_degrees.syzygies, by_pairs.syzygies);
+    Ok(())
+}
+
+#[test]
+fn a_basis_is_found_by_degrees(rt: HostRuntime) -> Result<(), Fail> {
+    let alloc = rt.alloc();
+    let m = overlapping(alloc)?;
+    if !has_small_size(&m) {
+        return Err("the size")?;
+    }
+    let generators = graph_rows(alloc, &m)?;
+    let found = counted_rows(alloc, &m, &generators, 4, &mut FirstStrategy)?;
+    let mut ticks = Ticks::new();
+    let by_pairs = graph_plain(alloc, &m, 4, &mut ticks).map_err(|_fault| "a fault")?;
+    let elements = by_pairs.basis.rows() + by_pairs.syzygies.rows();
+    assert_eq!(rt; found.map(|rows| rows.rows()), Some(elements));
     Ok(())
 }

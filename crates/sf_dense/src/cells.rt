@@ -114,7 +114,11 @@ fn residue(modulus: Modulus, sum: u64) -> u32
     ensures below { result < modulus }
     ensures small { modulus < 2 ^ 16 }
 {
-    (sum % modulus.value() as u64) as u32
+    let modulus = modulus.value() as u64;
+    if sum == 0 {
+        return 0;
+    }
+    (sum % modulus) as u32
 }
 
 /// A bound with the room of some entries more, where this is below 2^64.

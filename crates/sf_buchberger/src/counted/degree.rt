@@ -11,7 +11,7 @@ ghost use Rattle.sf_variables.specs.Variables.{IsMatrixInVariables};
 ghost use Rattle.sf_buchberger.specs.CountedRows.{HasSameRows, IsCounting};
 ghost use Rattle.sf_buchberger.specs.Eliminations.{IsEliminationOf};
 
-use crate::counted::columns::{divided, raised, sources};
+use crate::counted::columns::sources;
 use crate::counted::elimination::Elimination;
 use crate::counted::reducers::reducers;
 use crate::counted::state::Counting;
@@ -24,6 +24,12 @@ use std::alloc::Global;
 
 /// The most places of a degree.
 const MOST_COLUMNS: usize = 500_000;
+
+/// A degree may have so many places, and so many more for each term that there is. Where elements have far fewer terms than
+/// there are places, a loop over single pairs is faster.
+const FEW_COLUMNS: usize = 4_096;
+
+const COLUMNS_OF_A_TERM: usize = 4;
 
 impl Counting {
     /// Finds all elements of a degree, which is above those of all elements before. `false` where it fails.
@@ -51,7 +57,8 @@ impl Counting {
         if !self.is_below(degree) {
             return Ok(false);
         }
-        let Some(columns) = self.columns(alloc, m, degree)? else {
+        let most = self.most_columns(generators);
+        let Some(columns) = self.columns(alloc, m, degree, most)? else {
             return Ok(false);
         };
         let Some(elimination) = self.eliminated(alloc, m, generators, degree, columns, strategy)?
@@ -73,26 +80,31 @@ impl Counting {
         true
     }
 
+    /// How many places a degree may have.
+    fn most_columns(&self, generators: &Matrix) -> usize
+        ensures most { result ≤ 500_000 }
+    {
+        let terms = terms_of(&self.rows).saturating_add(terms_of(generators));
+        let columns = terms.saturating_mul(COLUMNS_OF_A_TERM);
+        columns.saturating_add(FEW_COLUMNS).min(MOST_COLUMNS)
+    }
+
     /// The places of a degree, unless they are too many.
     fn columns(
         &self,
         alloc: Global,
         m: &Matrix,
         degree: i32,
+        most: usize,
     ) -> Result<Option<Vec<Place>>, OutOfMemory>
         requires target { self.now.rows.target ≡ graph_degrees m.now }
         requires few { self.now.variables ≤ VARIABLES }
+        requires most { most ≤ 500_000 }
         ensures columns { IfOk result (λ found. IfSome found (λ ks. AreGraphColumns self.now.variables m.now degree ks.items)) }
         ensures size { IfOk result (λ found. IfSome found (λ ks. length ks.items < 4294967296)) }
     {
         facts(m);
-        columns_of(
-            alloc,
-            self.variables,
-            self.rows.target(),
-            degree,
-            MOST_COLUMNS,
-        )
+        columns_of(alloc, self.variables, self.rows.target(), degree, most)
     }
 
     /// The elements of a degree as entries, each cleared at the first places of the others.
@@ -114,8 +126,8 @@ impl Counting {
         ensures elimination { IfOk result (λ found. IfSome found (IsEliminationOf self.old.variables degree m.now)) }
     {
         let all = sources(&columns, m.cols());
-        let known = raised(&divided(alloc, &columns, &self.leads)?);
         let reducers = reducers(alloc, &columns, &self.leads)?;
+        let known = reducers.iter().filter(|reducer| !reducer.is_none()).count();
         let mut elimination = Elimination::new(
             alloc,
             m,
@@ -142,4 +154,13 @@ impl Counting {
             Ok(None)
         }
     }
+}
+
+/// How many terms a matrix has.
+fn terms_of(m: &Matrix) -> usize {
+    let mut terms: usize = 0;
+    for i in 0..m.rows() {
+        terms = terms.saturating_add(m.row(i).terms().len());
+    }
+    terms
 }

@@ -78,7 +78,8 @@ fn count_of(queue: &PairQueue, degree: i32) -> usize {
     }
 }
 
-/// Takes the pair of least degree that the strategy chooses. Where none is wanted the first is dropped.
+/// Takes the pair of least degree that the strategy chooses among them, the latest first: its rows are nearly reduced in this
+/// degree, so few places of its S-vector are cleared. Where none is wanted one is dropped.
 fn next<S: Strategy>(queue: &mut PairQueue, wanted: bool, strategy: &mut S) -> Option<(u32, u32)> {
     let count = queue.count_least();
     if count == 0 {
@@ -86,9 +87,9 @@ fn next<S: Strategy>(queue: &mut PairQueue, wanted: bool, strategy: &mut S) -> O
     }
     if wanted {
         let at = strategy.choose(count);
-        Some(queue.take(at))
+        Some(queue.take(count - 1 - at))
     } else {
-        let _ = queue.take(0);
+        let _ = queue.take(count - 1);
         None
     }
 }
