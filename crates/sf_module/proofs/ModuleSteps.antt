@@ -1,11 +1,9 @@
--- What `kernel`, `image` and `cokernel` have met of their plans, at each of their exits, and that what they present may be presented.
+-- What `image` and `cokernel` have met of their plans, at each of their exits, and that what they present may be presented.
 use Rattle.std.proofs.Common.{◌≡◌, Ok, Err, Result, sym, ◌∙◌, ap, subst, List, ℤ}
 use Rattle.sf_algebra.specs.Matrices.{Matrix}
 use Rattle.sf_algebra.specs.MatrixOperations.{stacked}
 use Rattle.sf_algebra.specs.Rings.{Ring, IsOverField}
-use Rattle.sf_algebra.specs.Vectors.{IsVector}
 use Rattle.sf_algebra.proofs.Monomials.Weights.{field_ring}
-use Rattle.sf_groebner.proofs.Spanning.Spans.{span_module}
 use Rattle.sf_matrix.specs.declared.basis.BaseFault.TheVariants.{Memory}
 use Rattle.sf_matrix.specs.declared.basis.BaseFault.{BaseFault}
 use Rattle.sf_matrix.specs.Meets.{Meets}
@@ -16,76 +14,19 @@ use Rattle.sf_matrix.proofs.Plans.Rules.{meets_fails, meets_stops, meets_then}
 use Rattle.sf_object.specs.declared.map.Map.{Map}
 use Rattle.sf_object.specs.Faults.{IsBetween}
 use Rattle.sf_genmor.specs.declared.presentation.Presentation.{Presentation}
-use Rattle.sf_genmor.specs.LookPlans.{basis_plan, blocks_plan}
+use Rattle.sf_genmor.specs.LookPlans.{basis_plan}
 use Rattle.sf_genmor.specs.PresentationPlans.{IsPresentable, present_plan}
 use Rattle.sf_genmor.proofs.LookAnswers.{basis_look}
-use Rattle.sf_module.specs.ModulePlans.{IsWellDefined, cokernel_plan, image_plan, images_and_relations, kernel_plan, units_over}
+use Rattle.sf_module.specs.ModulePlans.{cokernel_plan, image_plan, images_and_relations, units_over}
 use Rattle.sf_module.proofs.SamePresentations.{InSpan-behind}
-use Rattle.sf_module.proofs.Presentable.{bases_presentable, blocks_presentable, units_presentable}
-
--- what is a map stands between its modules
-pub map_between : (f : Map) → IsWellDefined f → IsBetween f
-map_between f h = record {
-  source_ring = h.source_ring;
-  target_ring = h.target_ring;
-  source_degrees = h.source_degrees;
-  target_degrees = h.target_degrees;
-}
+use Rattle.sf_module.proofs.Presentable.{bases_presentable, units_presentable}
 
 -- what comes behind the looks of each plan
-abbrev kernel_rest : Map → Matrix → Plan Presentation
-kernel_rest f cycles = bind (basis_plan f.source) (λ base. present_plan cycles base)
-
 abbrev image_rest : Map → Matrix → Plan Presentation
 image_rest f whole = bind (basis_plan f.target) (λ base. present_plan whole base)
 
 abbrev cokernel_rest : Map → Matrix → Plan Presentation
 cokernel_rest f base = present_plan (units_over f.target.ring f.target.target) base
-
--- the relations of source and target as code reads them
-module _ {t u : Table} (f : Map) {a : Matrix} (same_target : a ≡ f.target) where
-  blocks_at : {r : Result Matrix BaseFault} → Meets t (blocks_plan f.matrix a) r u → Meets t (blocks_plan f.matrix f.target) r u
-  blocks_at {r} h = subst (λ m. Meets t (blocks_plan f.matrix m) r u) same_target h
-
-  pub kernel_fails : {fault : BaseFault} → Meets t (blocks_plan f.matrix a) (Err fault) u → Meets t (kernel_plan f) (Err fault) u
-  unfolding kernel_plan
-  kernel_fails h = meets_fails (kernel_rest f) (blocks_at h)
-
-  module _ {cycles : Matrix} (h : Meets t (blocks_plan f.matrix a) (Ok cycles) u) where
-    kernel_goes : {v : Table} {r : Result Presentation BaseFault} → Meets u (kernel_rest f cycles) r v → Meets t (kernel_plan f) r v
-    unfolding kernel_plan
-    kernel_goes k = meets_then (kernel_rest f) (blocks_at h) k
-
-    module _ {b : Matrix} (same_source : b ≡ f.source) {v : Table} where
-      source_at : {r : Result Matrix BaseFault} → Meets u (basis_plan b) r v → Meets u (basis_plan f.source) r v
-      source_at {r} k = subst (λ m. Meets u (basis_plan m) r v) same_source k
-
-      pub kernel_base_fails : {fault : BaseFault} → Meets u (basis_plan b) (Err fault) v → Meets t (kernel_plan f) (Err fault) v
-      kernel_base_fails k = kernel_goes (meets_fails (present_plan cycles) (source_at k))
-
-      module _ {base : Matrix} (k : Meets u (basis_plan b) (Ok base) v) where
-        pub kernel_presentable : IsWellDefined f → IsPresentable v.limit cycles base
-        kernel_presentable map =
-            let first = blocks_at h in
-            let second = source_at k in
-            let source = basis_look u.limit f.source second.looked base second.run in
-            let span = span_module f.source (field_ring source.1.field) source.1.matrix in
-            blocks_presentable v.limit f.matrix f.target f.source map.target_ring map.target_degrees (sym map.source_ring)
-            (sym map.source_degrees)
-            (λ x inside. record {
-              coefficients =
-                  subst (λ (y : Ring × List ℤ). IsVector y.0 y.1 x) (λ i. (sym map.source_ring i, sym map.source_degrees i))
-                  (span.vectors x inside);
-              inside = map.sends x inside;
-            })
-            first.looked second.looked cycles base
-            (subst (λ limit. Run limit (blocks_plan f.matrix f.target) first.looked (Ok cycles))
-            (sym (second.grown.limit ∙ first.grown.limit)) first.run)
-            (subst (λ limit. Run limit (basis_plan f.source) second.looked (Ok base)) (sym second.grown.limit) second.run)
-
-        pub kernel_found : {w : Table} {r : Result Presentation BaseFault} → Meets v (present_plan cycles base) r w
-            → Meets t (kernel_plan f) r w
-        kernel_found l = kernel_goes (meets_then (present_plan cycles) (source_at k) l)
 
 -- the rows that code has stacked
 rows_are : (f : Map) (rows a : Matrix) → rows ≡ stacked f.matrix a → a ≡ f.target → rows ≡ images_and_relations f

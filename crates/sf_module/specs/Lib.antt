@@ -1,3 +1,4 @@
+pub mod HomologyPlans
 pub mod ModulePlans
 pub mod ModuleLaws
 pub mod SortedPlaces

@@ -1,6 +1,11 @@
 //! What the plans answer, each as the contract of a function that does nothing.
 
-ghost use Rattle.sf_module.specs.ModuleLaws.{AnswersCokernel, AnswersImage, AnswersKernel, AnswersSoundCokernel, AnswersSoundImage, AnswersSoundKernel};
+ghost use Rattle.sf_module.specs.ModuleLaws.{AnswersCokernel, AnswersHomology, AnswersImage, AnswersKernel, AnswersSoundCokernel, AnswersSoundHomology, AnswersSoundImage, AnswersSoundKernel};
+
+/// The plan of a homology answers the one homology of the definitions.
+pub fn homologies_are_answered()
+    ensures { AnswersHomology }
+{}
 
 /// The plan of a kernel answers the one kernel of the definitions.
 pub fn kernels_are_answered()
@@ -17,8 +22,10 @@ pub fn cokernels_are_answered()
     ensures { AnswersCokernel }
 {}
 
-/// What they answer are matrices over the map's ring, whose degrees exceed those of small matrices by at most the limit.
+/// What they answer are matrices over the ring of what they are given, whose degrees exceed those of small matrices by at most the
+/// limit.
 pub fn answers_are_sound()
+    ensures homology { AnswersSoundHomology }
     ensures kernel { AnswersSoundKernel }
     ensures image { AnswersSoundImage }
     ensures cokernel { AnswersSoundCokernel }

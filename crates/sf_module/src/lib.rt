@@ -1,4 +1,5 @@
-//! The kernel, the image and the cokernel of a map of presented modules, through any table of bases.
+//! The homology of a complex of presented modules, and the kernel, the image and the cokernel of a map, through any table of
+//! bases.
 //!
 //! What a call looks at, and what it answers, is a plan; what a plan answers is a law.
 #![tactic(auto)]
@@ -8,7 +9,8 @@ mod modules;
 mod units;
 
 pub use laws::{
-    answers_are_sound, cokernels_are_answered, images_are_answered, kernels_are_answered,
+    answers_are_sound, cokernels_are_answered, homologies_are_answered, images_are_answered,
+    kernels_are_answered,
 };
-pub use modules::{cokernel, image, kernel};
+pub use modules::{cokernel, homology, image, kernel};
 pub use units::unit_basis;

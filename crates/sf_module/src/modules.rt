@@ -1,13 +1,38 @@
 ghost use Rattle.std.specs.Prelude.{Result};
 ghost use Rattle.sf_matrix.specs.Meets.{Meets};
 ghost use Rattle.sf_object.specs.Faults.{IsBetween};
+ghost use Rattle.sf_module.specs.HomologyPlans.{IsComplexAt, homology_plan, place_between};
 ghost use Rattle.sf_module.specs.ModulePlans.{IsWellDefined, cokernel_plan, image_plan, kernel_plan};
 
 use crate::units::unit_basis;
 use sf_genmor::{Presentation, basis_of, first_blocks_of, present};
-use sf_matrix::{BaseFault, Bases};
-use sf_object::Map;
+use sf_matrix::{BaseFault, Bases, Matrix};
+use sf_object::{Map, Presented};
 use std::alloc::Global;
+
+/// The homology of a complex at the module `here`, to which the map `before` goes, and from which the map `after` goes to the module
+/// `beyond`: generators and relations of the vectors that `after` sends into the span of the relations beyond, modulo the span of
+/// `before` and of the relations here.
+///
+/// It looks at `after` with the relations beyond behind it, at `before` with the relations here behind it, and at what the
+/// presentation needs.
+pub fn homology<B: Bases>(
+    alloc: Global,
+    before: &Matrix,
+    here: &Presented,
+    after: &Matrix,
+    beyond: &Presented,
+    bases: &mut B,
+) -> Result<Presentation, BaseFault>
+    requires complex { IsComplexAt (place_between before.now here.now after.now beyond.now) }
+    ensures { Meets (B.table bases.old) (homology_plan (place_between before.now here.now after.now beyond.now)) result
+        (B.table bases.new) }
+{
+    let cycles = first_blocks_of(alloc, after, beyond.relations(), bases)?;
+    let rows = before.stack(alloc, here.relations())?;
+    let boundaries = basis_of(alloc, &rows, bases)?;
+    present(alloc, &cycles, &boundaries, bases)
+}
 
 /// The kernel of a map: generators and relations of the vectors that are sent into the span of the target's relations, modulo the
 /// span of the source's.

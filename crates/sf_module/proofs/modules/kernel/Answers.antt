@@ -1,5 +1,5 @@
 use Rattle.sf_matrix.proofs.Plans.Rules.{meets_exit}
-use Rattle.sf_module.proofs.ModuleSteps.{kernel_base_fails, kernel_fails, kernel_found, kernel_presentable}
+use Rattle.sf_module.proofs.HomologySteps.{kernel_base_fails, kernel_fails, kernel_found, kernel_presentable}
 use Rattle.sf_module.proofs.modules.kernel.Goals as goal
 
 pub returns-in_err-cycles : goal.returns-in_err-cycles
