@@ -1,5 +1,5 @@
 -- Divisions of vectors of a span by its reduced basis, and what they enter.
-use Rattle.std.proofs.Common.{◌≡◌, true, false, ⊎_elim, ℕ, zero, suc, ◌-◌, ◌<◌, ◌≤◌, List, [], length, refl, sym, ◌∙◌, ap, subst, arith, ℤ, pos}
+use Rattle.std.proofs.Common.{◌≡◌, Bool, true, false, int_eq, ⊎_elim, ℕ, suc, ◌-◌, ◌<◌, ◌≤◌, List, [], length, sym, ◌∙◌, ap, subst, arith, ℤ, pos}
 use Rattle.std.proofs.lemmas.Bool.{cases_lt}
 use Rattle.std.proofs.lemmas.Int.{ints}
 use Rattle.std.proofs.lemmas.List.{length-map}
@@ -11,12 +11,12 @@ use Rattle.sf_algebra.specs.Primes.{IsPrime}
 use Rattle.sf_algebra.specs.Rings.{IsOverField, IsRing, Ring, Weights, plain}
 use Rattle.sf_algebra.specs.Sums.{normal}
 use Rattle.sf_algebra.specs.Terms.{Term}
-use Rattle.sf_algebra.specs.Vectors.{IsTermOfDegree, IsVector, Place, Vector, place_cmp, place_degree}
+use Rattle.sf_algebra.specs.Vectors.{IsHomogeneous, IsTermOfDegree, IsVector, Place, Vector, generator_degree, place_cmp, place_degree}
 use Rattle.sf_algebra.proofs.Basics.Lists.{AllByRecursion-get, AllByRecursion-weaken}
 use Rattle.sf_algebra.proofs.Monomials.Orders.{place_cmp_linear}
 use Rattle.sf_algebra.proofs.Monomials.Weights.{field_ring, ones_positive}
 use Rattle.sf_algebra.proofs.Terms.Normal.{IsCanonical-normal}
-use Rattle.sf_algebra.proofs.Terms.Sums.{normal-canonical, normal-nil}
+use Rattle.sf_algebra.proofs.Terms.Sums.{normal-canonical}
 use Rattle.sf_algebra.proofs.Vectors.Degrees.{IsHomogeneous-normal, IsHomogeneous-row_combination}
 use Rattle.sf_algebra.proofs.Vectors.HomogeneousVectors.{HasHomogeneousRows-from_IsMatrix}
 use Rattle.sf_algebra.proofs.Vectors.Rows.{IsCanonical-row_combination}
@@ -33,14 +33,18 @@ use Rattle.sf_groebner.proofs.Spanning.Spans.{span_module}
 use Rattle.sf_matrix.specs.Bounds.{DegreeFits}
 use Rattle.sf_reduce.proofs.DivisionLoops.{IsDivision-steps}
 use Rattle.sf_minimal.specs.Constants.{StandWithin, constants}
-use Rattle.sf_minimal.specs.Pivots.{ArePivots}
-use Rattle.sf_minimal.specs.Steps.{HasRowOfDegree, IsLowBasis, IsStep, constant_terms}
-use Rattle.sf_minimal.proofs.ConstantTerms.{IsNotConstant, constants-each, constants-none}
-use Rattle.sf_minimal.proofs.Entering.{IsEntered-empty}
+use Rattle.sf_minimal.specs.Steps.{HasRowOfDegree, IsLowBasis}
+use Rattle.sf_minimal.proofs.ChosenRows.{chosen, constants-chosen_all, constants-chosen_none}
+use Rattle.sf_minimal.proofs.Complete.{IsDone}
+use Rattle.sf_minimal.proofs.ConstantTerms.{constants-each}
 
 -- a plain ring modulo a prime
 pub over_plain : (ring : Ring) → ring ≡ plain ring.modulus → IsPrime ring.modulus → IsOverField ring
 over_plain ring same prime = subst IsOverField (sym same) (record { prime = prime; weights = ones_positive })
+
+-- whether a row has degree d
+abbrev pub of_degree : Matrix → ℤ → ℕ → Bool
+of_degree m d k = int_eq d (generator_degree (degrees_of m.rows) k)
 
 -- the monomial 1 has the degree 0
 degree_one : (weights : Weights) (a : Monomial) → exponent_sum a ≡ 0 → monomial_degree weights a ≡ 0
@@ -94,35 +98,41 @@ module _ (m : Matrix) (prime : IsOverField m.ring) (matrix : IsMatrix m) (basis 
       within : (i : ℕ) → i < length (degrees_of m.rows) → i < length m.rows
       within i k = simp length-map at k
 
-  -- where no row has the degree, no quotient is constant
-  pub IsStep-skipped : (pivots : Matrix) → ArePivots pivots → IsRing pivots.ring → (v : Vector) → InSpan m v
-      → (HasRowOfDegree m v.degree → ⊥) → IsStep m pivots pivots v.degree v.terms
-  IsStep-skipped pivots h positive v inside none =
+  -- a constant quotient stands at a row of the vector's degree
+  constant-degree : (d : ℤ) (steps : List (Term Place)) → IsHomogeneous m.ring.weights (degrees_of m.rows) d steps
+      → AllByRecursion (λ (t : Term Place). exponent_sum t.at.monomial ≡ 0 → d ≡ generator_degree (degrees_of m.rows) t.at.position) steps
+  constant-degree d steps h =
+      AllByRecursion-weaken _ _
+      (λ t k constant. let own = k.1 in let one = degree_one m.ring.weights t.at.monomial constant in omega (arith, ints, own, one))
+      steps h
+
+  module _ (d e : ℤ) (steps : List (Term Place)) (h : IsHomogeneous m.ring.weights (degrees_of m.rows) e steps) where
+    -- constant quotients of a vector of this degree stand at these rows
+    pub constants-of_degree : int_eq d e ≡ true → constants (length m.rows) (chosen (of_degree m d) steps) ≡ constants (length m.rows) steps
+    constants-of_degree same =
+        constants-chosen_all (of_degree m d) (length m.rows) steps
+        (AllByRecursion-weaken _ _ (λ t k constant. ap (int_eq d) (sym (k constant)) ∙ same) steps (constant-degree e steps h))
+
+    -- those of another degree at others
+    pub constants-other_degree : int_eq d e ≡ false → constants (length m.rows) (chosen (of_degree m d) steps) ≡ []
+    constants-other_degree other =
+        constants-chosen_none (of_degree m d) (length m.rows) steps
+        (AllByRecursion-weaken _ _ (λ t k constant. ap (int_eq d) (sym (k constant)) ∙ other) steps (constant-degree e steps h))
+
+  -- a vector of another degree is divided without constant quotients at these rows
+  pub IsDone-other : (S : List (Term Place) → Type 0) → S [] → (d : ℤ) (v : Vector) → InSpan m v → int_eq d v.degree ≡ false
+      → IsDone m (λ c. S (constants (length m.rows) (chosen (of_degree m d) c))) v.degree v.terms
+  IsDone-other S none d v inside other =
       let division = basis_division m prime matrix m.rows basis.reduced v (span-vector v inside) in
       let quotients : Vector = division.1 in
       let divided = division.2.divided in
       record {
         steps = quotients.terms;
         divided = no_rest_left v division.0 quotients.terms inside division.2.rest_degree divided;
-        entered = IsEntered-empty pivots positive h (constant_terms m quotients.terms)
-            (ap (normal (place_cmp m.ring.weights) m.ring.modulus)
-            (constants-none (length m.rows) quotients.terms
-            (AllByRecursion-weaken _ _ (λ t k. not_constant t (within t.at.position k.0) k.1 (exponent_sum t.at.monomial) refl) quotients.terms divided.homogeneous))
-            ∙ normal-nil (place_cmp m.ring.weights) m.ring.modulus);
+        inside = subst S (sym (constants-other_degree d v.degree quotients.terms divided.homogeneous other)) none;
       }
-    where
-      within : (i : ℕ) → i < length (degrees_of m.rows) → i < length m.rows
-      within i k = simp length-map at k
 
-      not_constant : (t : Term Place) → t.at.position < length m.rows
-          → v.degree ≡ place_degree m.ring.weights (degrees_of m.rows) t.at → (k : ℕ) → exponent_sum t.at.monomial ≡ k
-          → IsNotConstant t
-      not_constant t inside degree (suc k) e = omega (arith, e)
-      not_constant t inside degree zero e =
-          let one = degree_one m.ring.weights t.at.monomial e in
-          absurd (none (t.at.position, inside, omega (arith, ints, degree, one)))
-
-  monic_rows : AllByRecursion (IsMonicRow m.ring) m.rows
+  pub monic_rows : AllByRecursion (IsMonicRow m.ring) m.rows
   monic_rows =
       AllByRecursion-both (IsVector m.ring m.target) (λ (v : Vector). IsMonic v.terms) (IsMonicRow m.ring)
       (λ v a b. record { canonical = a.canonical; monic = b }) m.rows matrix basis.reduced.monic

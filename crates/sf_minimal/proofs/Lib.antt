@@ -3,13 +3,16 @@ pub mod ConstantTerms
 pub mod Differences
 pub mod VectorRows
 pub mod Echelons
+pub mod ChosenRows
 pub mod Complete
 pub mod ToPivots
 pub mod ConstantParts
 pub mod FromPivots
 pub mod PivotRows
+pub mod PassedOver
 pub mod ProperPairs
 pub mod States
+pub mod Decisions
 pub mod KeptRows
 pub mod LowLeads
 pub mod Entering

@@ -1,43 +1,57 @@
 -- What the pivots say of the rows and pairs that were entered.
-use Rattle.std.proofs.Common.{◌≡◌, Some, slice_get, replicate, inl, inr, ◌⊎◌, ⊎_elim, ℕ, zero, suc, ◌+◌, ◌<◌, ◌≤◌, List, [], ◌∷◌, ◌++◌, append-nil, length, refl, sym, ◌∙◌, ap, subst, arith, ℤ, pos}
-use Rattle.std.proofs.lemmas.Bool.{cases_lt}
-use Rattle.std.proofs.lemmas.List.{length-append, length-map, length-replicate}
-use Rattle.std.specs.List.{AllByRecursion}
+use Rattle.std.proofs.Common.{◌≡◌, Bool, ◌||◌, replicate, inl, inr, ◌⊎◌, ⊎_elim, ℕ, zero, suc, ◌+◌, ◌<◌, ◌≤◌, List, [], ◌∷◌, ◌++◌, append-nil, length, refl, sym, ◌∙◌, ap, subst, arith, ℤ, pos}
+use Rattle.std.proofs.lemmas.Bool.{cases_lt, or_parts}
+use Rattle.std.proofs.lemmas.List.{length-append, length-map, length-replicate, map-append}
+use Rattle.std.proofs.lemmas.List.Folds.{list_any-append}
+use Rattle.std.specs.List.{AllByRecursion, list_any}
 use Rattle.sf_algebra.specs.Matrices.{Matrix, IsMatrix, degrees_of}
-use Rattle.sf_algebra.specs.MatrixOperations.{row_at, row_combination}
+use Rattle.sf_algebra.specs.MatrixOperations.{row_combination}
 use Rattle.sf_algebra.specs.Rings.{IsRing, Ring}
 use Rattle.sf_algebra.specs.Sums.{normal}
 use Rattle.sf_algebra.specs.Terms.{Term}
-use Rattle.sf_algebra.specs.Vectors.{IsHomogeneous, IsVector, Place, Vector, place_cmp, place_degree}
-use Rattle.sf_algebra.proofs.Basics.Lists.{AllByRecursion-append, AllByRecursion-get, AllByRecursion-weaken}
-use Rattle.sf_algebra.proofs.Multiplying.Gathering.{row_at-slice_get}
+use Rattle.sf_algebra.specs.Vectors.{IsHomogeneous, IsVector, Place, Vector, place_cmp}
+use Rattle.sf_algebra.proofs.Basics.Lists.{AllByRecursion-append, AllByRecursion-weaken}
 use Rattle.sf_algebra.proofs.Terms.Negatives.{negative_one_term}
 use Rattle.sf_algebra.proofs.Vectors.RowSums.{row_sum-nil_first}
-use Rattle.sf_algebra.proofs.Vectors.Rows.{IsCanonical-row_combination, row_at-past, row_combination-nil}
+use Rattle.sf_algebra.proofs.Vectors.Rows.{IsCanonical-row_combination}
 use Rattle.sf_algebra.proofs.Vectors.StackedRows.{row_combination-stacked_first}
-use Rattle.sf_groebner.specs.Criterion.{HaveLeadsAtOnePosition, IsForRows, IsMonicRow, IsPair, lcm_place, lead_at, s_coefficients, s_vector}
+use Rattle.sf_groebner.specs.Criterion.{HaveLeadsAtOnePosition, IsForRows, IsPair, lead_at, lead_place, s_coefficients, s_vector}
 use Rattle.sf_groebner.specs.Divisions.{IsDivided}
+use Rattle.sf_groebner.specs.Leads.{place_divides}
 use Rattle.sf_groebner.specs.ReducedBases.{IsMonic, IsSpanBasis}
 use Rattle.sf_groebner.specs.Spans.{InSpan}
-use Rattle.sf_groebner.proofs.Basics.Items.{AllByRecursion-both}
+use Rattle.sf_groebner.proofs.Constructions.LeadDivisors.{lead_places}
 use Rattle.sf_groebner.proofs.PairTheorems.Kernels.{row_combination-difference}
 use Rattle.sf_groebner.proofs.PairTheorems.Multiplied.{EachPlace-products}
 use Rattle.sf_groebner.proofs.PairTheorems.Schreyer.{IsSpanned, IsSpanned-module, IsSpanned-row}
 use Rattle.sf_groebner.proofs.PairTheorems.SyzygySpans.{InSpan-IsSpanned}
 use Rattle.sf_matrix.specs.KeptNumbers.{vector_at}
 use Rattle.sf_minimal.specs.Constants.{StandWithin, constants}
-use Rattle.sf_minimal.specs.Numbers.{DecideRows}
+use Rattle.sf_minimal.specs.Numbers.{pivot_place}
 use Rattle.sf_minimal.specs.Pivots.{ArePivots, IsEntered, constant_row}
-use Rattle.sf_minimal.specs.Steps.{IsPairStep, IsStep, constant_terms}
-use Rattle.sf_minimal.proofs.Complete.{IsDone, relation-spanned}
+use Rattle.sf_minimal.specs.Steps.{IsFilled, IsPairStep, IsPassedOver, IsRowStep, IsStep, NeedsNoStep, constant_terms, pair_degree}
+use Rattle.sf_minimal.proofs.Complete.{IsDone}
 use Rattle.sf_minimal.proofs.ConstantParts.{IsConstantPart, IsRelation, constant_part-module, constants-part}
 use Rattle.sf_minimal.proofs.ConstantTerms.{not_constant-product}
 use Rattle.sf_minimal.proofs.Differences.{minus}
 use Rattle.sf_minimal.proofs.Modules.{from_normal, has_combination, to_normal}
-use Rattle.sf_minimal.proofs.PivotRows.{pivot-in_sum}
 use Rattle.sf_minimal.proofs.ProperPairs.{proper_pairs}
-use Rattle.sf_minimal.proofs.ToPivots.{in_sum-pivot}
-use Rattle.sf_minimal.proofs.VectorRows.{row_at-vector_at}
+use Rattle.sf_minimal.proofs.VectorRows.{AllByRecursion-vector_at, row_at-vector_at}
+
+-- the pivots span the constant terms
+abbrev pub HasAllSpanned : Matrix → List Vector → List (Term Place) → Type 0
+HasAllSpanned m pivots c = IsSpanned m.ring pivots (constants (length m.rows) c)
+
+-- terms of degree d are done: so it is with their quotients, or each row of degree d has a pivot
+abbrev pub IsFinished : Matrix → List Vector → ℤ → List (Term Place) → Type 0
+IsFinished m pivots d terms = IsDone m (HasAllSpanned m pivots) d terms ⊎ IsFilled m pivots d
+
+abbrev pub IsFinishedRow : Matrix → List Vector → Vector → Type 0
+IsFinishedRow m pivots v = IsFinished m pivots v.degree v.terms
+
+-- a pair is done, or passed over
+abbrev pub IsFinishedPair : Matrix → List Vector → ℕ → ℕ → Type 0
+IsFinishedPair m pivots i j = IsFinished m pivots (pair_degree m i j) (s_vector m.ring m.rows i j) ⊎ IsPassedOver m.rows i j
 
 -- the pair of rows l and k comes before that of i and j
 abbrev pub IsEarlier : ℕ → ℕ → ℕ → ℕ → Type 0
@@ -49,9 +63,8 @@ pub record IsState (m base : Matrix) (positive : IsRing m.ring) (pivots : Matrix
   pub ring : pivots.ring ≡ m.ring
   pub columns : length pivots.target ≡ length m.rows
   pub sound : AllByRecursion (λ (v : Vector). IsConstantPart m positive base.rows v.terms) pivots.rows
-  pub rows : (l : ℕ) → l < b → IsDone m pivots.rows (vector_at base.rows l).degree (vector_at base.rows l).terms
-  pub pairs : (l k : ℕ) → IsPair m.rows l k → IsEarlier l k i j
-      → IsDone m pivots.rows (place_degree m.ring.weights m.target (lcm_place (lead_at m.rows) l k)) (s_vector m.ring m.rows l k)
+  pub rows : (l : ℕ) → l < b → IsFinishedRow m pivots.rows (vector_at base.rows l)
+  pub pairs : (l k : ℕ) → IsPair m.rows l k → IsEarlier l k i j → IsFinishedPair m pivots.rows l k
 
 -- what some rows span, more of them span
 pub IsSpanned-more : (ring : Ring) → IsRing ring → (rows more : List Vector) (c : List (Term Place)) → IsSpanned ring rows c
@@ -65,8 +78,28 @@ IsSpanned-more ring positive rows more c h = record {
     longer : (i : ℕ) → i < length rows → i < length (rows ++ more)
     longer i k = let size = length-append rows more in omega (arith, size)
 
+-- no pair is before the first one
+none_earlier : (l k : ℕ) → IsEarlier l k 0 0 → ⊥
+none_earlier l k (inl e) = omega arith
+none_earlier l k (inr e) = omega (arith, e.1)
+
+-- the pairs before the next one: those before this one, and it
+last_pair : (l k i j : ℕ) → IsEarlier l k (i + 1) j → IsEarlier l k i j ⊎ ((l ≡ i) × (k ≡ j))
+last_pair l k i j (inl e) = inl (inl e)
+last_pair l k i j (inr e) =
+    ⊎_elim (λ (before : l < i). inl (inr (e.0, before)))
+    (λ (not_before : i ≤ l). let same : l ≡ i = omega (arith, e.1, not_before) in inr (same, e.0)) (cases_lt l i)
+
+last_row : (l b : ℕ) → l < b + 1 → (l < b) ⊎ (b ≡ l)
+last_row l b below =
+    ⊎_elim (λ (before : l < b). inl before) (λ (not_before : b ≤ l). inr (omega (arith, below, not_before))) (cases_lt l b)
+
+-- what holds of the pair i and j
+at_pair : (P : ℕ → ℕ → Type 0) (l k i j : ℕ) → (l ≡ i) × (k ≡ j) → P i j → P l k
+at_pair P l k i j same h = subst (λ x. P x k) (sym same.0) (subst (P i) (sym same.1) h)
+
 module _ (m base : Matrix) (positive : IsRing m.ring) where
-  step-within : (d : ℤ) (steps : List (Term Place)) → IsHomogeneous m.ring.weights (degrees_of m.rows) d steps
+  pub step-within : (d : ℤ) (steps : List (Term Place)) → IsHomogeneous m.ring.weights (degrees_of m.rows) d steps
       → StandWithin (length m.rows) steps
   step-within d steps h = AllByRecursion-weaken _ _ (λ t k. within t.at.position k.0) steps h
     where
@@ -77,7 +110,7 @@ module _ (m base : Matrix) (positive : IsRing m.ring) where
       → IsConstantPart m positive base.rows (normal (place_cmp m.ring.weights) m.ring.modulus c)
   part-normal = to_normal m.ring positive (IsConstantPart m positive base.rows) (constant_part-module m positive base.rows)
 
-  step-value : (d : ℤ) (terms steps : List (Term Place)) → IsDivided m.ring m.target m.rows d terms [] steps
+  pub step-value : (d : ℤ) (terms steps : List (Term Place)) → IsDivided m.ring m.target m.rows d terms [] steps
       → row_combination m.ring m.rows steps ≡ terms
   step-value d terms steps h =
       sym (row_sum-nil_first m.ring positive.modulus _ (IsCanonical-row_combination m.ring positive.modulus m.rows steps)) ∙ h.sum
@@ -88,8 +121,25 @@ module _ (m base : Matrix) (positive : IsRing m.ring) where
         subst (λ (rows : List Vector). IsSpanned m.ring rows d) (sym entered.rows)
         (IsSpanned-more m.ring positive old.rows entered.more d h)
 
-    done-new : (d : ℤ) (terms : List (Term Place)) → IsDone m old.rows d terms → IsDone m new.rows d terms
-    done-new d terms h = record { steps = h.steps; divided = h.divided; spanned = spanned-new _ h.spanned }
+    -- a row that has a pivot keeps it
+    filled-new : (d : ℤ) → IsFilled m old.rows d → IsFilled m new.rows d
+    filled-new d h free = h (free.0, free.1, free.2, (or_parts _ _ (sym appended ∙ free.3)).0)
+      where
+        stands : Place → Bool
+        stands k = place_divides k (pivot_place (length m.rows) free.0)
+
+        appended : list_any stands (lead_places new.rows) ≡ (list_any stands (lead_places old.rows) || list_any stands (lead_places entered.more))
+        appended =
+            ap (λ rows. list_any stands (lead_places rows)) entered.rows
+            ∙ ap (list_any stands) (map-append (λ (v : Vector). lead_place v.terms) old.rows entered.more)
+            ∙ list_any-append stands (lead_places old.rows) (lead_places entered.more)
+
+    finished-new : (d : ℤ) (terms : List (Term Place)) → IsFinished m old.rows d terms → IsFinished m new.rows d terms
+    finished-new d terms h =
+        ⊎_elim
+        (λ (done : IsDone m (HasAllSpanned m old.rows) d terms).
+        inl (record { steps = done.steps; divided = done.divided; inside = spanned-new _ done.inside }))
+        (λ (filled : IsFilled m old.rows d). inr (filled-new d filled)) h
 
     sound-new : AllByRecursion (λ (v : Vector). IsConstantPart m positive base.rows v.terms) old.rows
         → IsConstantPart m positive base.rows c
@@ -107,37 +157,30 @@ module _ (m base : Matrix) (positive : IsRing m.ring) where
             (AllByRecursion-append (λ (v : Vector). IsConstantPart m positive base.rows v.terms) old.rows (constant_row c ∷ []) h (part, tt)) k.coefficients))
 
   step-done : (old new : Matrix) → old.ring ≡ m.ring → (d : ℤ) (terms : List (Term Place)) (h : IsStep m old new d terms)
-      → IsDone m new.rows d terms
+      → IsDone m (HasAllSpanned m new.rows) d terms
   step-done old new rings d terms h = record {
     steps = h.steps;
     divided = h.divided;
-    spanned = from_normal m.ring positive (IsSpanned m.ring new.rows) (IsSpanned-module m.ring positive new.rows) _
+    inside = from_normal m.ring positive (IsSpanned m.ring new.rows) (IsSpanned-module m.ring positive new.rows) _
         (subst (λ (r : Ring). IsSpanned r new.rows (constant_terms m h.steps)) rings h.entered.spanned);
   }
 
   -- one row more
   pub IsState-row : (old new : Matrix) (b : ℕ) → IsState m base positive old b 0 0 → b < length base.rows
-      → IsStep m old new (vector_at base.rows b).degree (vector_at base.rows b).terms
-      → IsState m base positive new (b + 1) 0 0
-  IsState-row old new b state within h = record {
+      → IsRowStep m old new (vector_at base.rows b) → IsState m base positive new (b + 1) 0 0
+  IsState-row old new b state within (inl h) = record {
     are_pivots = h.entered.pivots;
     ring = h.entered.ring ∙ state.ring;
     columns = ap length h.entered.target ∙ state.columns;
     sound = sound-new old new state.ring _ h.entered state.sound part;
     rows = λ l below. ⊎_elim
-        (λ (before : l < b). done-new old new state.ring _ h.entered _ _ (state.rows l before))
-        (λ (not_before : b ≤ l).
-        let same : b ≡ l = omega (arith, below, not_before) in
-        subst (λ k. IsDone m new.rows (vector_at base.rows k).degree (vector_at base.rows k).terms) same
-        (step-done old new state.ring _ _ h))
-        (cases_lt l b);
-    pairs = λ l k pair earlier. absurd (none l k earlier);
+        (λ (before : l < b). finished-new old new state.ring _ h.entered _ _ (state.rows l before))
+        (λ (same : b ≡ l).
+        subst (λ k. IsFinishedRow m new.rows (vector_at base.rows k)) same (inl (step-done old new state.ring _ _ h)))
+        (last_row l b below);
+    pairs = λ l k pair earlier. absurd (none_earlier l k earlier);
   }
     where
-      none : (l k : ℕ) → IsEarlier l k 0 0 → ⊥
-      none l k (inl e) = omega arith
-      none l k (inr e) = omega (arith, e.1)
-
       relation : IsRelation m positive base.rows (h.steps ++ [])
       relation =
           subst (IsSpanned m.ring base.rows)
@@ -148,6 +191,18 @@ module _ (m base : Matrix) (positive : IsRing m.ring) where
       part =
           part-normal (constants (length m.rows) h.steps)
           (constants-part m positive base.rows h.steps [] (step-within _ h.steps h.divided.homogeneous) tt tt relation)
+  IsState-row old new b state within (inr h) =
+      subst (λ (x : Matrix). IsState m base positive x (b + 1) 0 0) (sym h.1)
+      (record {
+        are_pivots = state.are_pivots;
+        ring = state.ring;
+        columns = state.columns;
+        sound = state.sound;
+        rows = λ l below. ⊎_elim (λ (before : l < b). state.rows l before)
+            (λ (same : b ≡ l). subst (λ k. IsFinishedRow m old.rows (vector_at base.rows k)) same (inr h.0))
+            (last_row l b below);
+        pairs = λ l k pair earlier. absurd (none_earlier l k earlier);
+      })
 
   module _ (monic : AllByRecursion (λ (v : Vector). IsMonic v.terms) m.rows) (reduced : IsSpanBasis m m.rows) where
     -- the constants of an S-vector's quotients
@@ -177,21 +232,17 @@ module _ (m base : Matrix) (positive : IsRing m.ring) where
           ring = step.entered.ring ∙ state.ring;
           columns = ap length step.entered.target ∙ state.columns;
           sound = sound-new old new state.ring _ step.entered state.sound (pair_part i j pair _ step.steps step.divided);
-          rows = λ l below. done-new old new state.ring _ step.entered _ _ (state.rows l below);
+          rows = λ l below. finished-new old new state.ring _ step.entered _ _ (state.rows l below);
           pairs = λ l k other e. ⊎_elim
-              (λ (before : IsEarlier l k i j). done-new old new state.ring _ step.entered _ _ (state.pairs l k other before))
+              (λ (before : IsEarlier l k i j).
+              ⊎_elim
+              (λ (finished : IsFinished m old.rows (pair_degree m l k) (s_vector m.ring m.rows l k)).
+              inl (finished-new old new state.ring _ step.entered _ _ finished))
+              (λ (passed : IsPassedOver m.rows l k). inr passed) (state.pairs l k other before))
               (λ (same : (l ≡ i) × (k ≡ j)).
-              subst (λ x. IsDone m new.rows (place_degree m.ring.weights m.target (lcm_place (lead_at m.rows) x k)) (s_vector m.ring m.rows x k)) (sym same.0)
-              (subst (λ y. IsDone m new.rows (place_degree m.ring.weights m.target (lcm_place (lead_at m.rows) i y)) (s_vector m.ring m.rows i y)) (sym same.1)
-              (step-done old new state.ring _ _ step)))
-              (last_pair l k e);
+              at_pair (IsFinishedPair m new.rows) l k i j same (inl (inl (step-done old new state.ring _ _ step))))
+              (last_pair l k i j e);
         }
-      where
-        last_pair : (l k : ℕ) → IsEarlier l k (i + 1) j → IsEarlier l k i j ⊎ ((l ≡ i) × (k ≡ j))
-        last_pair l k (inl e) = inl (inl e)
-        last_pair l k (inr e) =
-            ⊎_elim (λ (before : l < i). inl (inr (e.0, before)))
-            (λ (not_before : i ≤ l). let same : l ≡ i = omega (arith, e.1, not_before) in inr (same, e.0)) (cases_lt l i)
     IsState-pair old new b i j state earlier later (inr h) =
         subst (λ (x : Matrix). IsState m base positive x b j (i + 1)) (sym h.1)
         (record {
@@ -200,17 +251,17 @@ module _ (m base : Matrix) (positive : IsRing m.ring) where
           columns = state.columns;
           sound = state.sound;
           rows = state.rows;
-          pairs = λ l k other e. state.pairs l k other (before l k other.positions e);
+          pairs = λ l k other e. ⊎_elim (λ (before : IsEarlier l k i j). state.pairs l k other before)
+              (λ (same : (l ≡ i) × (k ≡ j)).
+              at_pair (λ x y. HaveLeadsAtOnePosition m.rows x y → IsFinishedPair m old.rows x y) l k i j same
+              (λ positions. not_needed positions h.0) other.positions)
+              (last_pair l k i j e);
         })
       where
-        before : (l k : ℕ) → HaveLeadsAtOnePosition m.rows l k → IsEarlier l k (i + 1) j → IsEarlier l k i j
-        before l k positions (inl e) = inl e
-        before l k positions (inr e) =
-            ⊎_elim (λ (less : l < i). inr (e.0, less))
-            (λ (not_less : i ≤ l).
-            let same : l ≡ i = omega (arith, e.1, not_less) in
-            absurd (h.0 (subst (λ x. HaveLeadsAtOnePosition m.rows x j) same (subst (λ y. HaveLeadsAtOnePosition m.rows l y) e.0 positions))))
-            (cases_lt l i)
+        not_needed : HaveLeadsAtOnePosition m.rows i j → NeedsNoStep m i j old.rows → IsFinishedPair m old.rows i j
+        not_needed positions (inl none) = absurd (none positions)
+        not_needed positions (inr (inl passed)) = inr passed
+        not_needed positions (inr (inr filled)) = inl (inr filled)
 
     -- all pairs with row j
     pub IsState-next : (pivots : Matrix) (b j : ℕ) → IsState m base positive pivots b j j → IsState m base positive pivots b (j + 1) 0
@@ -229,41 +280,6 @@ module _ (m base : Matrix) (positive : IsRing m.ring) where
             (λ (not_near : j ≤ k). let same : k ≡ j = omega (arith, e, not_near) in inr (same, omega (arith, less, same))) (cases_lt k j)
         before l k less (inr e) = absurd (omega (arith, e.1))
 
-    -- at the end the pivots decide
-    pub IsState-end : (pivots : Matrix) → IsState m base positive pivots (length base.rows) (length m.rows) 0
-        → IsMatrix m → IsMatrix base → IsMatrix pivots → 1 < m.ring.modulus → base.ring ≡ m.ring → base.target ≡ m.target
-        → DecideRows m (InSpan base) pivots.rows
-    IsState-end pivots state matrix base_matrix pivot_matrix above rings targets i within = (
-      pivot-in_sum m base pivots positive matrix base_matrix rings targets reduced.sorted state.ring pivot_matrix state.are_pivots state.columns state.sound i within,
-      in_sum-pivot m base pivots positive above matrix rings state.ring pivot_matrix state.are_pivots
-          (relation-spanned m positive pivots.rows monic_rows (proper_pairs m.rows monic reduced.apart)
-          (λ l k pair. state.pairs l k pair (inl pair.later)) base.rows row_done) i within,
-    )
-      where
-        monic_rows : AllByRecursion (IsMonicRow m.ring) m.rows
-        monic_rows =
-            AllByRecursion-both (IsVector m.ring m.target) (λ (v : Vector). IsMonic v.terms) (IsMonicRow m.ring)
-            (λ v a b. record { canonical = a.canonical; monic = b }) m.rows matrix monic
-
-        row_done : (l : ℕ) → (q : List (Term Place)) × AllByRecursion (IsForRows m.rows) q
-            × (row_combination m.ring m.rows q ≡ row_at base.rows l) × IsSpanned m.ring pivots.rows (constants (length m.rows) q)
-        row_done l =
-            ⊎_elim
-            (λ (inside : l < length base.rows).
-            let done = state.rows l inside in (
-              done.steps,
-              step-within _ done.steps done.divided.homogeneous,
-              step-value _ _ done.steps done.divided ∙ sym (row_at-vector_at base.rows l),
-              done.spanned,
-            ))
-            (λ (past : length base.rows ≤ l). (
-              [],
-              tt,
-              row_combination-nil m.ring positive.modulus m.rows ∙ sym (row_at-past base.rows l past),
-              (IsSpanned-module m.ring positive pivots.rows).has_none,
-            ))
-            (cases_lt l (length base.rows))
-
     -- at the beginning there are no pivots
     pub IsState-start : (pivots : Matrix)
         → pivots ≡ record { ring = m.ring; target = replicate (length m.rows) (pos 0); rows = [] }
@@ -281,21 +297,17 @@ module _ (m base : Matrix) (positive : IsRing m.ring) where
           columns = length-replicate (length m.rows) (pos 0);
           sound = tt;
           rows = λ l below. absurd (omega (arith, below));
-          pairs = λ l k pair earlier. absurd (none l k earlier);
+          pairs = λ l k pair earlier. absurd (none_earlier l k earlier);
         })
       where
         zeros : (n : ℕ) → AllByRecursion (λ (d : ℤ). d ≡ pos 0) (replicate n (pos 0))
         zeros zero = tt
         zeros (suc n) = (refl, zeros n)
 
-        none : (l k : ℕ) → IsEarlier l k 0 0 → ⊥
-        none l k (inl e) = omega arith
-        none l k (inr e) = omega (arith, e.1)
-
 -- a row is in the span
-pub row-inside : (base : Matrix) → IsRing base.ring → IsMatrix base → (i : ℕ) (v : Vector) → slice_get base.rows i ≡ Some v
-    → i < length base.rows → InSpan base v
-row-inside base positive matrix i v read within =
-    InSpan-IsSpanned base positive matrix v (AllByRecursion-get (IsVector base.ring base.target) base.rows i v matrix read)
-    (subst (IsSpanned base.ring base.rows) (row_at-slice_get base.rows i v read)
+pub vector-inside : (base : Matrix) → IsRing base.ring → IsMatrix base → (i : ℕ) → i < length base.rows
+    → InSpan base (vector_at base.rows i)
+vector-inside base positive matrix i within =
+    InSpan-IsSpanned base positive matrix (vector_at base.rows i) (AllByRecursion-vector_at (IsVector base.ring base.target) base.rows matrix i within)
+    (subst (IsSpanned base.ring base.rows) (row_at-vector_at base.rows i)
     (IsSpanned-row base.ring positive base.rows i within))

@@ -1,5 +1,5 @@
 -- A row that is in the span of the other matrix and the earlier rows has a pivot.
-use Rattle.std.proofs.Common.{◌≡◌, IsTrue, ℕ, suc, ◌-◌, ◌<◌, List, [], ◌∷◌, length, take, refl, sym, ◌∙◌, ap, subst, arith}
+use Rattle.std.proofs.Common.{◌≡◌, Bool, true, IsTrue, ℕ, suc, ◌-◌, ◌<◌, List, [], ◌∷◌, length, take, refl, sym, ◌∙◌, ap, subst, arith}
 use Rattle.std.specs.declared.cmp.Ordering.TheVariants.{Less}
 use Rattle.std.proofs.lemmas.List.{length-map, length-take-le}
 use Rattle.std.specs.List.{AllByRecursion}
@@ -10,6 +10,7 @@ use Rattle.sf_algebra.specs.Sums.{normal}
 use Rattle.sf_algebra.specs.Terms.{Term}
 use Rattle.sf_algebra.specs.VectorOperations.{row_sum}
 use Rattle.sf_algebra.specs.Vectors.{Place, Vector, IsVector, IsCanonicalRow, place_cmp}
+use Rattle.sf_algebra.proofs.Basics.Filters.{AllByRecursion-filter_keeps}
 use Rattle.sf_algebra.proofs.Basics.Lists.{AllByRecursion-weaken}
 use Rattle.sf_algebra.proofs.Terms.Normal.{IsAboveEach}
 use Rattle.sf_algebra.proofs.Vectors.Positions.{place_cmp-later}
@@ -25,24 +26,29 @@ use Rattle.sf_matrix.specs.KeptNumbers.{vector_at}
 use Rattle.sf_minimal.specs.Constants.{constants, turned}
 use Rattle.sf_minimal.specs.Numbers.{has_pivot}
 use Rattle.sf_minimal.specs.Pivots.{ArePivots}
+use Rattle.sf_minimal.proofs.ChosenRows.{chosen, chosen-first}
 use Rattle.sf_minimal.proofs.ConstantTerms.{constants-each, constants-first}
 use Rattle.sf_minimal.proofs.Differences.{minus, normal-first, row_combination-minus}
 use Rattle.sf_minimal.proofs.Echelons.{spanned-divided}
 use Rattle.sf_minimal.proofs.VectorRows.{AllByRecursion-vector_at, row_at-vector_at, row_combination-take}
 
--- the constant terms of all coefficients that give a combination of the other rows are spanned by the pivots
-abbrev pub HasSpannedRelations : Matrix → List Vector → List Vector → Type 0
-HasSpannedRelations m others pivots = (c a : List (Term Place)) → AllByRecursion (IsForRows m.rows) c
+-- the pivots span the constant terms at chosen rows
+abbrev pub HasSpannedConstants : Matrix → List Vector → (ℕ → Bool) → List (Term Place) → Type 0
+HasSpannedConstants m pivots choice c = IsSpanned m.ring pivots (constants (length m.rows) (chosen choice c))
+
+-- so it is with all coefficients that give a combination of the other rows
+abbrev pub HasSpannedRelations : Matrix → List Vector → List Vector → (ℕ → Bool) → Type 0
+HasSpannedRelations m others pivots choice = (c a : List (Term Place)) → AllByRecursion (IsForRows m.rows) c
     → row_combination m.ring m.rows c ≡ row_combination m.ring others a
-    → IsSpanned m.ring pivots (constants (length m.rows) c)
+    → HasSpannedConstants m pivots choice c
 
 module _ (m base pivots : Matrix) (positive : IsRing m.ring) (above : 1 < m.ring.modulus) (matrix : IsMatrix m)
     (rings : base.ring ≡ m.ring) (pivot_rings : pivots.ring ≡ m.ring) (pivot_matrix : IsMatrix pivots)
-    (are_pivots : ArePivots pivots) (spanned : HasSpannedRelations m base.rows pivots.rows) where
-  pub in_sum-pivot : (i : ℕ) → i < length m.rows
+    (are_pivots : ArePivots pivots) (choice : ℕ → Bool) (spanned : HasSpannedRelations m base.rows pivots.rows choice) where
+  pub in_sum-pivot : (i : ℕ) → i < length m.rows → choice i ≡ true
       → IsInSum m.ring (take i m.rows) (InSpan base) (vector_at m.rows i)
       → IsTrue (has_pivot pivots.rows (length m.rows) i)
-  in_sum-pivot i within h = pivot
+  in_sum-pivot i within is_chosen h = pivot
     where
       n : ℕ
       n = length m.rows
@@ -96,24 +102,29 @@ module _ (m base pivots : Matrix) (positive : IsRing m.ring) (above : 1 < m.ring
       unit : Term Place
       unit = turned n (unit_term i)
 
-      lower : IsAboveEach (place_cmp m.ring.weights) unit.at (constants n away)
+      kept : List (Term Place)
+      kept = chosen choice away
+
+      lower : IsAboveEach (place_cmp m.ring.weights) unit.at (constants n kept)
       lower =
-          constants-each (λ t. place_cmp m.ring.weights t.at unit.at ≡ Less) n away
-          (AllByRecursion-weaken _ _ (λ t k _. place_cmp-later m.ring.weights _ unit.at (further t.at.position k)) away away_before)
+          constants-each (λ t. place_cmp m.ring.weights t.at unit.at ≡ Less) n kept
+          (AllByRecursion-weaken _ _ (λ t k _. place_cmp-later m.ring.weights _ unit.at (further t.at.position k)) kept
+          (AllByRecursion-filter_keeps (λ (t : Term Place). t.at.position < i) (λ (t : Term Place). choice t.at.position) away away_before))
         where
           further : (j : ℕ) → j < i → n - suc i < n - suc j
           further j k = omega arith
 
       pivot : IsTrue (has_pivot pivots.rows n i)
       pivot =
-          let inside : IsSpanned m.ring pivots.rows (constants n (unit_term i ∷ away)) =
-          spanned (unit_term i ∷ away) a for_rows
-          (row_combination-minus m.ring positive m.rows (unit_term i ∷ []) y h.first.terms canonical row ∙ sym first) in
-          let divided : HasDividedLead pivots.rows (normal (place_cmp m.ring.weights) m.ring.modulus (constants n (unit_term i ∷ away))) =
-          subst (λ (r : Ring). HasDividedLead pivots.rows (normal (place_cmp r.weights) r.modulus (constants n (unit_term i ∷ away)))) pivot_rings
-          (spanned-divided pivots (subst IsRing (sym pivot_rings) positive) pivot_matrix are_pivots (constants n (unit_term i ∷ away))
-          (subst (λ (r : Ring). IsSpanned r pivots.rows (constants n (unit_term i ∷ away))) (sym pivot_rings) inside)) in
+          let inside : IsSpanned m.ring pivots.rows (constants n (unit_term i ∷ kept)) =
+          subst (λ us. IsSpanned m.ring pivots.rows (constants n us)) (chosen-first choice (unit_term i) away is_chosen)
+          (spanned (unit_term i ∷ away) a for_rows
+          (row_combination-minus m.ring positive m.rows (unit_term i ∷ []) y h.first.terms canonical row ∙ sym first)) in
+          let divided : HasDividedLead pivots.rows (normal (place_cmp m.ring.weights) m.ring.modulus (constants n (unit_term i ∷ kept))) =
+          subst (λ (r : Ring). HasDividedLead pivots.rows (normal (place_cmp r.weights) r.modulus (constants n (unit_term i ∷ kept)))) pivot_rings
+          (spanned-divided pivots (subst IsRing (sym pivot_rings) positive) pivot_matrix are_pivots (constants n (unit_term i ∷ kept))
+          (subst (λ (r : Ring). IsSpanned r pivots.rows (constants n (unit_term i ∷ kept))) (sym pivot_rings) inside)) in
           let shape =
-          ap (normal (place_cmp m.ring.weights) m.ring.modulus) (constants-first n (unit_term i) away refl)
-          ∙ normal-first m.ring positive unit (constants n away) (omega arith) above lower in
+          ap (normal (place_cmp m.ring.weights) m.ring.modulus) (constants-first n (unit_term i) kept refl)
+          ∙ normal-first m.ring positive unit (constants n kept) (omega arith) above lower in
           subst (HasDividedLead pivots.rows) shape divided

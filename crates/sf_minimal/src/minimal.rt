@@ -7,11 +7,11 @@ ghost use Rattle.sf_matrix.specs.KeptNumbers.{AreKeptNumbers, IsModerate, SpansI
 ghost use Rattle.sf_minimal.specs.Numbers.{free_numbers};
 ghost use Rattle.sf_minimal.specs.Pivots.{ArePivots};
 
+use crate::degrees::has_pivot;
 use crate::facts::matrix_facts;
 use crate::steps::pivots_of;
 use sf_field::OutOfMemory;
-use sf_matrix::{Matrix, Term};
-use sf_mono::Mono;
+use sf_matrix::Matrix;
 use sf_reduce::Leads;
 use std::alloc::Global;
 
@@ -40,16 +40,8 @@ fn numbers_of(alloc: Global, pivots: &Matrix, rows: usize) -> Result<Vec<usize>,
     let leads = Leads::of(alloc, pivots)?;
     let mut numbers = Vec::new(alloc);
     for i in 0..rows {
-        let unit = Term {
-            position: (rows - 1 - i) as u64,
-            monomial: Mono::one(),
-            coefficient: 1,
-        };
-        match leads.divisor(&unit) {
-            None => {
-                numbers.push(i)?;
-            }
-            Some(_) => {}
+        if !has_pivot(&leads, rows, i) {
+            numbers.push(i)?;
         }
     }
     Ok(numbers)

@@ -1,13 +1,14 @@
 ghost use Rattle.std.specs.Prelude.{◌≡◌, [], ◌∷◌, length, replicate, pos, IfOk, MatchOption, OnOk};
 ghost use Rattle.sf_algebra.specs.Vectors.{IsVector};
 ghost use Rattle.sf_groebner.specs.Divisions.{tail_of};
+ghost use Rattle.sf_groebner.proofs.Constructions.LeadDivisors.{lead_places};
 ghost use Rattle.sf_minimal.specs.Pivots.{ArePivots, IsEntered, IsMonicMultiple};
 
 use crate::facts::matrix_facts;
 use sf_field::OutOfMemory;
 use sf_matrix::{Free, List, Matrix, Term, Vector};
 use sf_mono::Mono;
-use sf_reduce::normal_form;
+use sf_reduce::{Leads, normal_form};
 use std::alloc::Global;
 
 /// No pivots yet, for the rows of a matrix.
@@ -18,16 +19,20 @@ pub(crate) fn no_pivots(alloc: Global, m: &Matrix) -> Result<Matrix, OutOfMemory
     Ok(Matrix::new(alloc, m.modulus(), Free { degrees }))
 }
 
-/// Enters a row of constants: what the pivots leave of it, made monic, is one more pivot, unless it is 0.
+/// Enters a row of constants: what the pivots leave of it, made monic, is one more pivot, unless it is 0. Its lead joins
+/// those that are taken.
 pub(crate) fn enter_constants(
     alloc: Global,
     pivots: &mut Matrix,
+    taken: &mut Leads,
     constants: &Vector,
 ) -> Result<(), OutOfMemory>
     requires pivots { ArePivots pivots.old }
+    requires taken { taken.old ≡ lead_places pivots.old.rows }
     requires degree { constants.now.degree ≡ pos 0 }
     requires vector { IsVector pivots.old.ring pivots.old.target constants.now }
     ensures entered { OnOk result (IsEntered pivots.old pivots.new constants.now.terms) }
+    ensures taken { OnOk result (taken.new ≡ lead_places pivots.new.rows) }
 {
     matrix_facts(pivots);
     if constants.is_empty() {
@@ -39,6 +44,7 @@ pub(crate) fn enter_constants(
     };
     let pivot = made_monic(alloc, pivots, &rest, lead)?;
     pivots.push_row(pivot)?;
+    taken.push(alloc, lead)?;
     Ok(())
 }
 

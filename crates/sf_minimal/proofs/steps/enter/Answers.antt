@@ -64,4 +64,5 @@ returns c =
         divided = no_rest_left m over facts.matrix c.requires.basis (sum_vector c.args.sum) c.in_ok-_rest._rest quotients c.requires.inside c.in_ok-_rest.ensures.degree c.in_ok-_rest.ensures.divided;
         entered = subst (IsEntered c.args.pivots.now c.enter_constants.new.pivots) terms c.in_ok-enter_constants.ensures.entered;
       };
+      taken = c.in_ok-enter_constants.ensures.taken;
     }

@@ -1,29 +1,29 @@
-use Rattle.std.proofs.Common.{◌≡◌, sym, subst, ◌∙◌, to_z, of_z, w32, w64, rules}
-use Rattle.sf_algebra.specs.Rings.{IsRing, Ring}
+use Rattle.std.proofs.Common.{◌≡◌, inl, inr, refl, sym, subst, ◌∙◌, to_z, of_z, w32, w64, rules}
+use Rattle.sf_algebra.specs.Rings.{Ring}
 use Rattle.sf_algebra.specs.Terms.{IsCanonical}
 use Rattle.sf_algebra.specs.Vectors.{place_cmp}
-use Rattle.sf_algebra.proofs.Monomials.Weights.{field_ring}
 use Rattle.sf_groebner.specs.Spans.{InSpan}
+use Rattle.sf_groebner.proofs.Constructions.LeadDivisors.{lead_places}
 use Rattle.sf_reduce.specs.TermSums.{TermSum, sum_vector}
-use Rattle.sf_minimal.specs.Steps.{HasRowOfDegree, IsStep}
-use Rattle.sf_minimal.proofs.Dividing.{IsStep-skipped, over_plain, span-vector}
+use Rattle.sf_minimal.specs.Steps.{HasFreeRow, IsStep}
+use Rattle.sf_minimal.proofs.Dividing.{over_plain, span-vector}
 use Rattle.sf_minimal.proofs.steps.enter_row.Goals as goal
 
-pub returns-then-not-has_degree : goal.returns-then-not-has_degree
-returns-then-not-has_degree c =
+pub returns-then-not-has_free_row : goal.returns-then-not-has_free_row
+returns-then-not-has_free_row c =
     let m = c.args.cands.now in
     let row = c.args.row.now in
-    let facts = c.matrix_facts.ensures in
-    let over = over_plain m.ring facts.weights facts.prime in
     let own : to_z w32 (of_z w32 c.degree.result) ≡ row.degree = search rules in
     let wide : to_z w64 (of_z w64 c.from.result) ≡ c.from.result = search rules in
-    let none : HasRowOfDegree m row.degree → ⊥ =
-    λ (h : HasRowOfDegree m row.degree).
-    let clash = sym (c.has_degree.ensures.row.1 (h.0, h.1, wide ∙ c.from.ensures ∙ own ∙ h.2)) ∙ c.if-not-has_degree.true in
-    cc in
     record {
-      step = IsStep-skipped m over facts.matrix c.requires.basis c.args.pivots.now c.requires.pivots
-          (subst IsRing (sym c.requires.pivots_ring) (field_ring over)) row c.requires.inside none;
+      step = inr (
+        (λ (free : HasFreeRow m (lead_places c.args.pivots.now.rows) row.degree).
+            let there = subst (λ ks. HasFreeRow m ks row.degree) (sym c.requires.taken) free in
+            let clash = sym (c.has_free_row.ensures.row.1 (there.0, there.1, wide ∙ c.from.ensures ∙ own ∙ there.2, there.3)) ∙ c.if-not-has_free_row.true in
+            cc),
+        refl,
+      );
+      taken = c.requires.taken;
     }
 
 pub sum_of-requires : goal.sum_of-requires
@@ -41,5 +41,6 @@ enter-requires-clause-inside c =
 
 pub returns : goal.returns
 returns c = record {
-  step = subst (λ (s : TermSum). IsStep c.args.cands.now c.args.pivots.now c.enter.new.pivots s.degree s.terms) c.in_ok-sum.ensures.sum c.in_ok-enter.ensures.step;
+  step = inl (subst (λ (s : TermSum). IsStep c.args.cands.now c.args.pivots.now c.enter.new.pivots s.degree s.terms) c.in_ok-sum.ensures.sum c.in_ok-enter.ensures.step);
+  taken = c.in_ok-enter.ensures.taken;
 }

@@ -1,7 +1,0 @@
-use Rattle.std.proofs.Common.{◌≡◌, ℕ, ◌<◌}
-use Rattle.sf_algebra.specs.Matrices.{row_degrees}
-use Rattle.sf_algebra.specs.Vectors.{generator_degree}
-use Rattle.sf_minimal.proofs.degrees.has_degree.Given as goal
-
-abbrev pub invariant-loop-i : goal.invariant-loop-i
-invariant-loop-i l = (k : ℕ) → k < l.i → l.degree ≡ generator_degree (row_degrees l.m) k → ⊥
