@@ -11,3 +11,10 @@ pub mod SmallLooks
 pub mod PresentationSteps
 pub mod CoordinateSteps
 pub mod PresentationDegrees
+pub mod SamePresentations
+pub mod PresentedAnswers
+pub mod Presentable
+pub mod Places
+pub mod UnitRows
+pub mod QuotientAnswers
+pub mod QuotientSteps

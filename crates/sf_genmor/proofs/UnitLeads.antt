@@ -38,7 +38,7 @@ unit_rows-leads : (i : ℕ) (ds : List ℤ) → HaveUnitLeads (unit_rows i ds)
 unit_rows-leads i [] = tt
 unit_rows-leads i (d ∷ ds) = (refl, unit_rows-leads (suc i) ds)
 
-unit_basis-leads : (ds : List ℤ) → HaveUnitLeads (unit_basis ds)
+pub unit_basis-leads : (ds : List ℤ) → HaveUnitLeads (unit_basis ds)
 unit_basis-leads ds =
     AllByRecursion-by_degree (λ (v : Vector). HasUnitLead v.terms) (unit_rows 0 ds)
     (unit_rows-leads 0 ds)

@@ -5,3 +5,7 @@ pub mod PresentedSpans
 pub mod CoordinatePlans
 pub mod PlanLaws
 pub mod PresentationDegrees
+pub mod SoundPresentations
+pub mod SortedPlaces
+pub mod QuotientPlans
+pub mod QuotientLaws

@@ -16,8 +16,8 @@ use Rattle.sf_genmor.specs.LookPlans.{basis_plan, blocks_plan}
 use Rattle.sf_genmor.proofs.LookAnswers.{IsMatrix-base, basis_is, basis_look, blocks_is, blocks_look}
 use Rattle.sf_genmor.proofs.PresentationDegrees.{presentation_degrees}
 use Rattle.sf_module.specs.HomologyPlans.{HasMeetingMaps, IsHomologyOf, boundaries_of, homology_plan}
-use Rattle.sf_module.specs.ModuleLaws.{IsSoundOver}
-use Rattle.sf_module.proofs.PresentedAnswers.{HasTwoLooks, presents_modulo, same_presentation, sound_over, two_looks}
+use Rattle.sf_genmor.specs.SoundPresentations.{IsSoundOver}
+use Rattle.sf_genmor.proofs.PresentedAnswers.{HasTwoLooks, presents_modulo, same_presentation, sound_over, two_looks}
 
 homology_looks : (limit : ℕ) (place : ComplexPlace) (looked : List Matrix) (p : Presentation)
     → Run limit (homology_plan place) looked (Ok p)

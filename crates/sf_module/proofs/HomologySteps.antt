@@ -25,7 +25,7 @@ use Rattle.sf_genmor.proofs.LookAnswers.{IsMatrix-base, basis_look, blocks_look}
 use Rattle.sf_module.specs.HomologyPlans.{HasMeetingMaps, IsComplexAt, boundaries_of, homology_plan}
 use Rattle.sf_module.specs.ModulePlans.{IsWellDefined, kernel_plan}
 use Rattle.sf_module.proofs.ModuleAnswers.{kernel-homology, kernel_meets, kernel_place}
-use Rattle.sf_module.proofs.Presentable.{blocks_presentable}
+use Rattle.sf_genmor.proofs.Presentable.{blocks_presentable}
 
 -- at a place of a complex the maps meet
 pub complex_meets : (place : ComplexPlace) → IsComplexAt place → HasMeetingMaps place

@@ -1,9 +1,4 @@
-pub mod SamePresentations
-pub mod PresentedAnswers
 pub mod HomologyAnswers
 pub mod ModuleAnswers
-pub mod Presentable
 pub mod HomologySteps
 pub mod ModuleSteps
-pub mod Places
-pub mod UnitRows

@@ -1,32 +1,32 @@
 -- The plans of kernels, images and cokernels answer the kernels, images and cokernels of the definitions, and nothing else. A kernel is
 -- the homology where nothing arrives.
-use Rattle.std.proofs.Common.{◌≡◌, ℕ, List, Ok, refl, sym, ◌∙◌, subst, ℤ}
+use Rattle.std.proofs.Common.{◌≡◌, ℕ, List, Ok, refl, sym, ◌∙◌, ap, subst, ℤ}
 use Rattle.sf_algebra.specs.Matrices.{Matrix}
-use Rattle.sf_algebra.specs.Rings.{Ring, IsOverField}
+use Rattle.sf_algebra.specs.Rings.{Ring}
 use Rattle.sf_algebra.specs.Vectors.{IsVector}
 use Rattle.sf_algebra.proofs.Basics.Lists.{AllByRecursion-front}
 use Rattle.sf_algebra.proofs.Monomials.Weights.{field_ring}
-use Rattle.sf_groebner.specs.Homology.{ComplexPlace, IsAny, IsImage}
+use Rattle.sf_groebner.specs.Homology.{ComplexPlace, IsAny, IsCokernel, IsImage}
 use Rattle.sf_groebner.specs.Presentations.{IsPresentation}
 use Rattle.sf_groebner.specs.ReducedBases.{IsReducedBasis}
 use Rattle.sf_groebner.specs.Spans.{InSpan}
-use Rattle.sf_groebner.proofs.Uniqueness.Homology.{unique_cokernel, unique_image}
+use Rattle.sf_groebner.proofs.Uniqueness.Homology.{unique_image}
 use Rattle.sf_matrix.specs.Runs.{Run}
-use Rattle.sf_matrix.proofs.Plans.Readings.{bind_is}
-use Rattle.sf_presented.proofs.FreeBases.{reduced-any}
-use Rattle.sf_presented.proofs.PresentationMatrices.{IsMatrix-cokernel, IsMatrix-image}
+use Rattle.sf_presented.proofs.PresentationMatrices.{IsMatrix-image}
 use Rattle.sf_object.specs.declared.map.Map.{Map}
 use Rattle.sf_object.specs.Faults.{IsBetween}
 use Rattle.sf_genmor.specs.declared.presentation.Presentation.{Presentation}
 use Rattle.sf_genmor.specs.LookPlans.{basis_plan}
-use Rattle.sf_genmor.specs.PresentationPlans.{present_plan, without_rows}
+use Rattle.sf_genmor.specs.PresentationPlans.{without_rows}
+use Rattle.sf_genmor.specs.QuotientPlans.{quotient_plan}
 use Rattle.sf_genmor.proofs.LookAnswers.{basis_is, basis_look}
 use Rattle.sf_genmor.proofs.PresentationDegrees.{presentation_degrees}
+use Rattle.sf_genmor.proofs.QuotientAnswers.{quotient_answered, quotient_sound}
 use Rattle.sf_module.specs.HomologyPlans.{HasMeetingMaps, homology_plan}
-use Rattle.sf_module.specs.ModuleLaws.{IsSoundOver}
-use Rattle.sf_module.specs.ModulePlans.{IsCokernelOf, IsImageOf, IsKernelOf, cokernel_plan, image_plan, images_and_relations, kernel_plan, units_over}
+use Rattle.sf_genmor.specs.SoundPresentations.{IsSoundOver}
+use Rattle.sf_module.specs.ModulePlans.{IsCokernelOf, IsImageOf, IsKernelOf, cokernel_plan, image_plan, images_and_relations, kernel_plan}
 use Rattle.sf_module.proofs.HomologyAnswers.{homology_answered, homology_sound}
-use Rattle.sf_module.proofs.PresentedAnswers.{HasTwoLooks, presents_modulo, same_presentation, sound_over, two_looks}
+use Rattle.sf_genmor.proofs.PresentedAnswers.{HasTwoLooks, presents_modulo, same_presentation, sound_over, two_looks}
 
 -- the place of the source of a map, where nothing arrives
 abbrev pub kernel_place : Map → ComplexPlace
@@ -93,28 +93,32 @@ image_answered limit f looked p between run =
           h.reduced k.reduced,
     )
 
+-- a cokernel is the quotient by the images and the relations
+as_quotient : (limit : ℕ) (f : Map) (looked : List Matrix) (p : Presentation) → Run limit (cokernel_plan f) looked (Ok p)
+    → Run limit (quotient_plan (images_and_relations f)) looked (Ok p)
+unfolding cokernel_plan
+as_quotient limit f looked p run = run
+
+-- over the ring and the free module of the target
+cokernel-quotient : (f : Map) → IsBetween f → (g r : Matrix)
+    → IsPresentation f.matrix.ring f.matrix.target (IsAny f.matrix.ring f.matrix.target) (InSpan (images_and_relations f)) g r
+    ≡ IsCokernel f.target f.matrix g r
+cokernel-quotient f between g r =
+    ap (λ (x : Ring × List ℤ). IsPresentation x.0 x.1 (IsAny x.0 x.1) (InSpan (images_and_relations f)) g r)
+    (λ i. (between.target_ring i, between.target_degrees i))
+
 pub cokernel_answered : (limit : ℕ) (f : Map) (looked : List Matrix) (p : Presentation) → IsBetween f
     → Run limit (cokernel_plan f) looked (Ok p) → IsCokernelOf f p × ((q : Presentation) → IsCokernelOf f q → q ≡ p)
-unfolding cokernel_plan
 cokernel_answered limit f looked p between run =
-    let rows : Matrix = images_and_relations f in
-    let units : Matrix = units_over f.target.ring f.target.target in
-    let first = bind_is limit (basis_plan rows) (λ base. present_plan units base) looked p run in
-    let base : Matrix = first.0 in
-    let stack = basis_look limit rows first.1 base first.3 in
-    let field : IsOverField f.target.ring = subst IsOverField between.target_ring stack.1.field in
-    let positive = field_ring field in
-    let h =
-    presents_modulo limit units rows base stack.1.field stack.1.matrix (basis_is limit rows first.1 base first.3)
-    (sym between.target_ring) (IsAny f.target.ring f.target.target)
-    (reduced-any f.target.ring positive field.prime.above_one f.target.target) first.2 p first.4 in (
-      record { presents = h.presentation; reduced = h.reduced },
-      λ q k.
-          same_presentation f.target.ring f.target.target (IsAny f.target.ring f.target.target) (InSpan rows) positive p q
-          h.presentation
-          (unique_cokernel f.target f.matrix positive between.target_ring stack.1.matrix q.gens q.rels p.gens p.rels k.presents
-          h.presentation)
-          h.reduced k.reduced,
+    let h = quotient_answered limit (images_and_relations f) looked p (as_quotient limit f looked p run) in (
+      record {
+        presents = subst (λ (X : Type 0). X) (cokernel-quotient f between p.gens p.rels) h.0.presents;
+        reduced = h.0.reduced;
+      },
+      λ q k. h.1 q (record {
+        presents = subst (λ (X : Type 0). X) (sym (cokernel-quotient f between q.gens q.rels)) k.presents;
+        reduced = k.reduced;
+      }),
     )
 
 -- what the plans answer is sound: matrices over the ring, of small degrees
@@ -137,14 +141,4 @@ module _ (limit : ℕ) (f : Map) (looked : List Matrix) (p : Presentation) (betw
       (basis.target ∙ sym between.target_degrees ∙ sym whole.target) r.last_run)
 
   pub cokernel_sound : Run limit (cokernel_plan f) looked (Ok p) → IsSoundOver f.matrix.ring limit p
-  unfolding cokernel_plan
-  cokernel_sound run =
-      let rows : Matrix = images_and_relations f in
-      let units : Matrix = units_over f.target.ring f.target.target in
-      let first = bind_is limit (basis_plan rows) (λ base. present_plan units base) looked p run in
-      let basis = basis_is limit rows first.1 first.0 first.3 in
-      let presents = (cokernel_answered limit f looked p between run).0.presents in
-      sound_over f.matrix.ring limit p f.target.ring f.target.target (IsAny f.target.ring f.target.target) (InSpan rows) between.target_ring presents
-      (IsMatrix-cokernel f.target f.matrix p.gens p.rels presents)
-      (presentation_degrees limit units first.0 first.2 p (basis.ring ∙ between.target_ring)
-      (basis.target ∙ between.target_degrees) first.4)
+  cokernel_sound run = quotient_sound limit (images_and_relations f) looked p (as_quotient limit f looked p run)

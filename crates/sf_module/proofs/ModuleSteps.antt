@@ -1,32 +1,28 @@
 -- What `image` and `cokernel` have met of their plans, at each of their exits, and that what they present may be presented.
-use Rattle.std.proofs.Common.{◌≡◌, Ok, Err, Result, sym, ◌∙◌, ap, subst, List, ℤ}
+use Rattle.std.proofs.Common.{◌≡◌, Ok, Err, Result, sym, ◌∙◌, ap, subst}
 use Rattle.sf_algebra.specs.Matrices.{Matrix}
 use Rattle.sf_algebra.specs.MatrixOperations.{stacked}
-use Rattle.sf_algebra.specs.Rings.{Ring, IsOverField}
 use Rattle.sf_algebra.proofs.Monomials.Weights.{field_ring}
-use Rattle.sf_matrix.specs.declared.basis.BaseFault.TheVariants.{Memory}
 use Rattle.sf_matrix.specs.declared.basis.BaseFault.{BaseFault}
 use Rattle.sf_matrix.specs.Meets.{Meets}
 use Rattle.sf_matrix.specs.Plans.{Plan, bind}
 use Rattle.sf_matrix.specs.Runs.{Run}
 use Rattle.sf_matrix.specs.Tables.{Table}
-use Rattle.sf_matrix.proofs.Plans.Rules.{meets_fails, meets_stops, meets_then}
+use Rattle.sf_matrix.proofs.Plans.Rules.{meets_fails, meets_then}
 use Rattle.sf_object.specs.declared.map.Map.{Map}
 use Rattle.sf_object.specs.Faults.{IsBetween}
 use Rattle.sf_genmor.specs.declared.presentation.Presentation.{Presentation}
 use Rattle.sf_genmor.specs.LookPlans.{basis_plan}
 use Rattle.sf_genmor.specs.PresentationPlans.{IsPresentable, present_plan}
+use Rattle.sf_genmor.specs.QuotientPlans.{quotient_plan}
 use Rattle.sf_genmor.proofs.LookAnswers.{basis_look}
-use Rattle.sf_module.specs.ModulePlans.{cokernel_plan, image_plan, images_and_relations, units_over}
-use Rattle.sf_module.proofs.SamePresentations.{InSpan-behind}
-use Rattle.sf_module.proofs.Presentable.{bases_presentable, units_presentable}
+use Rattle.sf_module.specs.ModulePlans.{cokernel_plan, image_plan, images_and_relations}
+use Rattle.sf_genmor.proofs.SamePresentations.{InSpan-behind}
+use Rattle.sf_genmor.proofs.Presentable.{bases_presentable}
 
 -- what comes behind the looks of each plan
 abbrev image_rest : Map → Matrix → Plan Presentation
 image_rest f whole = bind (basis_plan f.target) (λ base. present_plan whole base)
-
-abbrev cokernel_rest : Map → Matrix → Plan Presentation
-cokernel_rest f base = present_plan (units_over f.target.ring f.target.target) base
 
 -- the rows that code has stacked
 rows_are : (f : Map) (rows a : Matrix) → rows ≡ stacked f.matrix a → a ≡ f.target → rows ≡ images_and_relations f
@@ -41,10 +37,10 @@ module _ {t : Table} (f : Map) {rows a : Matrix} (same_rows : rows ≡ stacked f
   unfolding image_plan
   image_fails h = meets_fails (image_rest f) (rows_at h)
 
-  pub cokernel_fails : {u : Table} {fault : BaseFault} → Meets t (basis_plan rows) (Err fault) u
-      → Meets t (cokernel_plan f) (Err fault) u
+  pub cokernel_found : {u : Table} {r : Result Presentation BaseFault} → Meets t (quotient_plan rows) r u
+      → Meets t (cokernel_plan f) r u
   unfolding cokernel_plan
-  cokernel_fails h = meets_fails (cokernel_rest f) (rows_at h)
+  cokernel_found {u} {r} h = subst (λ m. Meets t (quotient_plan m) r u) (rows_are f rows a same_rows same_target) h
 
   module _ {u : Table} {whole : Matrix} (h : Meets t (basis_plan rows) (Ok whole) u) where
     image_goes : {v : Table} {r : Result Presentation BaseFault} → Meets u (image_rest f whole) r v → Meets t (image_plan f) r v
@@ -74,30 +70,3 @@ module _ {t : Table} (f : Map) {rows a : Matrix} (same_rows : rows ≡ stacked f
         pub image_found : {w : Table} {r : Result Presentation BaseFault} → Meets v (present_plan whole base) r w
             → Meets t (image_plan f) r w
         image_found l = image_goes (meets_then (present_plan whole) (target_at k) l)
-
-    -- memory may be wanting for the unit vectors
-    pub cokernel_cut : Meets t (cokernel_plan f) (Err Memory) u
-    unfolding cokernel_plan
-    cokernel_cut = meets_stops (cokernel_rest f) (rows_at h)
-
-    module _ {units : Matrix} (same_units : units ≡ units_over f.target.ring f.target.target) where
-      pub cokernel_presentable : IsBetween f → IsPresentable u.limit units whole
-      cokernel_presentable between =
-          let first = rows_at h in
-          let stack = basis_look t.limit (images_and_relations f) first.looked whole first.run in
-          subst (λ n. IsPresentable u.limit n whole) (sym same_units)
-          (units_presentable f.target.ring (subst IsOverField between.target_ring stack.1.field) f.target.target u.limit
-          (images_and_relations f) between.target_ring between.target_degrees first.looked whole
-          (subst (λ limit. Run limit (basis_plan (images_and_relations f)) first.looked (Ok whole)) (sym first.grown.limit) first.run))
-
-      pub cokernel_found : {w : Table} {r : Result Presentation BaseFault} → Meets u (present_plan units whole) r w
-          → Meets t (cokernel_plan f) r w
-      unfolding cokernel_plan
-      cokernel_found {w} {r} l =
-          meets_then (cokernel_rest f) (rows_at h) (subst (λ n. Meets u (present_plan n whole) r w) same_units l)
-
--- the unit vectors that code has made
-pub units_are : (f : Map) (units : Matrix) (ring : Ring) (degrees : List ℤ) → IsBetween f → f.matrix.ring ≡ ring
-    → degrees ≡ f.target.target → units ≡ units_over ring degrees → units ≡ units_over f.target.ring f.target.target
-units_are f units ring degrees between same_ring same_degrees same =
-    same ∙ (λ i. units_over ((sym same_ring ∙ between.target_ring) i) (same_degrees i))

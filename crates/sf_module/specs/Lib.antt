@@ -1,4 +1,3 @@
 pub mod HomologyPlans
 pub mod ModulePlans
 pub mod ModuleLaws
-pub mod SortedPlaces

@@ -1,6 +1,6 @@
 -- What the plans of homology, kernels, images and cokernels answer. (Weibel, "An Introduction to Homological Algebra", section 1.1.)
 use Rattle.std.specs.Prelude.{◌≡◌, ℕ, List, Ok}
-use Rattle.sf_algebra.specs.Matrices.{Matrix, row_degrees, IsMatrix}
+use Rattle.sf_algebra.specs.Matrices.{Matrix}
 use Rattle.sf_algebra.specs.Rings.{Ring}
 use Rattle.sf_groebner.specs.Homology.{ComplexPlace}
 use Rattle.sf_matrix.specs.Plans.{Plan}
@@ -8,7 +8,7 @@ use Rattle.sf_matrix.specs.Runs.{Run}
 use Rattle.sf_object.specs.declared.map.Map.{Map}
 use Rattle.sf_object.specs.Faults.{IsBetween}
 use Rattle.sf_genmor.specs.declared.presentation.Presentation.{Presentation}
-use Rattle.sf_genmor.specs.PresentationDegrees.{HasSmallDegrees}
+use Rattle.sf_genmor.specs.SoundPresentations.{IsSoundOver}
 use Rattle.sf_module.specs.HomologyPlans.{HasMeetingMaps, IsHomologyOf, homology_plan}
 use Rattle.sf_module.specs.ModulePlans.{IsKernelOf, IsImageOf, IsCokernelOf, kernel_plan, image_plan, cokernel_plan}
 
@@ -30,17 +30,7 @@ AnswersImage = AnswersWith IsBetween image_plan IsImageOf
 abbrev pub AnswersCokernel : Type 0
 AnswersCokernel = AnswersWith IsBetween cokernel_plan IsCokernelOf
 
--- generators and relations are matrices over a ring, and their degrees exceed those of small matrices by at most the limit. So
--- the relations, over the free module of the generators' degrees, are those of a module that later lines may take.
-pub record IsSoundOver (ring : Ring) (limit : ℕ) (p : Presentation) : Type 0 where
-  pub generators : IsMatrix p.gens
-  pub relations : IsMatrix p.rels
-  pub generators_ring : p.gens.ring ≡ ring
-  pub relations_ring : p.rels.ring ≡ ring
-  pub relations_target : p.rels.target ≡ row_degrees p.gens
-  pub degrees : HasSmallDegrees limit p
-
--- so it is with all that a plan answers
+-- all that a plan answers are matrices over the ring, of small degrees
 abbrev pub AnswersSound : {X : Type 0} → (X → Type 0) → (X → Ring) → (X → Plan Presentation) → Type 0
 AnswersSound {X} Fits ring_of plan =
     (limit : ℕ) (x : X) (looked : List Matrix) (p : Presentation) → Fits x → Run limit (plan x) looked (Ok p)

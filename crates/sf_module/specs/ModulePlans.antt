@@ -1,18 +1,15 @@
 -- The plans of the kernel, the image and the cokernel of a map, and what their answers mean. (Weibel, "An Introduction to Homological
 -- Algebra", section 1.1; in homalg's convention. The working lists are this project's own.)
-use Rattle.std.specs.Prelude.{List, ℤ}
 use Rattle.sf_algebra.specs.Matrices.{Matrix}
 use Rattle.sf_algebra.specs.MatrixOperations.{stacked}
-use Rattle.sf_algebra.specs.Rings.{Ring}
 use Rattle.sf_groebner.specs.Homology.{IsKernel, IsImage, IsCokernel}
-use Rattle.sf_groebner.specs.MinimalGenerators.{matrix_of}
 use Rattle.sf_groebner.specs.Presentations.{IsModuleMap}
 use Rattle.sf_matrix.specs.Plans.{Plan, bind}
-use Rattle.sf_presented.specs.FreeBases.{unit_basis}
 use Rattle.sf_object.specs.declared.map.Map.{Map}
 use Rattle.sf_genmor.specs.declared.presentation.Presentation.{Presentation}
 use Rattle.sf_genmor.specs.LookPlans.{IsBasisMatrix, basis_plan, blocks_plan}
 use Rattle.sf_genmor.specs.PresentationPlans.{present_plan}
+use Rattle.sf_genmor.specs.QuotientPlans.{quotient_plan}
 
 -- each relation of the source is sent into the span of the target's relations
 abbrev pub IsWellDefined : Map → Type 0
@@ -21,10 +18,6 @@ IsWellDefined f = IsModuleMap f.source f.target f.matrix
 -- the rows of the matrix, then the relations of the target
 abbrev pub images_and_relations : Map → Matrix
 images_and_relations f = stacked f.matrix f.target
-
--- the reduced basis of all vectors of a free module
-abbrev pub units_over : Ring → List ℤ → Matrix
-units_over ring degrees = matrix_of ring degrees (unit_basis degrees)
 
 -- the vectors that are sent into the span of the target's relations, modulo that of the source's
 unfoldable pub kernel_plan : Map → Plan Presentation
@@ -38,8 +31,7 @@ image_plan f =
 
 -- all vectors modulo the span of images and relations
 unfoldable pub cokernel_plan : Map → Plan Presentation
-cokernel_plan f =
-    bind (basis_plan (images_and_relations f)) (λ base. present_plan (units_over f.target.ring f.target.target) base)
+cokernel_plan f = quotient_plan (images_and_relations f)
 
 -- generators and relations of the kernel, and the reduced basis of the relations
 pub record IsKernelOf (f : Map) (p : Presentation) : Type 0 where

@@ -6,11 +6,9 @@
 
 mod laws;
 mod modules;
-mod units;
 
 pub use laws::{
     answers_are_sound, cokernels_are_answered, homologies_are_answered, images_are_answered,
     kernels_are_answered,
 };
 pub use modules::{cokernel, homology, image, kernel};
-pub use units::unit_basis;

@@ -4,8 +4,7 @@ ghost use Rattle.sf_object.specs.Faults.{IsBetween};
 ghost use Rattle.sf_module.specs.HomologyPlans.{IsComplexAt, homology_plan, place_between};
 ghost use Rattle.sf_module.specs.ModulePlans.{IsWellDefined, cokernel_plan, image_plan, kernel_plan};
 
-use crate::units::unit_basis;
-use sf_genmor::{Presentation, basis_of, first_blocks_of, present};
+use sf_genmor::{Presentation, basis_of, first_blocks_of, present, present_quotient};
 use sf_matrix::{BaseFault, Bases, Matrix};
 use sf_object::{Map, Presented};
 use std::alloc::Global;
@@ -70,7 +69,5 @@ pub fn cokernel<B: Bases>(alloc: Global, f: &Map, bases: &mut B) -> Result<Prese
     ensures { Meets (B.table bases.old) (cokernel_plan f.now) result (B.table bases.new) }
 {
     let rows = f.matrix.stack(alloc, f.target.relations())?;
-    let base = basis_of(alloc, &rows, bases)?;
-    let units = unit_basis(alloc, f.matrix.modulus(), f.target.free())?;
-    present(alloc, &units, &base, bases)
+    present_quotient(alloc, &rows, bases)
 }

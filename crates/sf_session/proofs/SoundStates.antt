@@ -8,7 +8,7 @@ use Rattle.sf_algebra.specs.Rings.{IsOverField}
 use Rattle.sf_field.specs.Moduli.{is_modulus}
 use Rattle.sf_genmor.specs.declared.presentation.Presentation.{Presentation}
 use Rattle.sf_matrix.specs.Runs.{Run}
-use Rattle.sf_module.specs.ModuleLaws.{IsSoundOver}
+use Rattle.sf_genmor.specs.SoundPresentations.{IsSoundOver}
 use Rattle.sf_module.proofs.ModuleAnswers.{kernel_sound, image_sound, cokernel_sound}
 use Rattle.sf_object.specs.Faults.{IsBetween}
 use Rattle.sf_object.proofs.MapFaults.{no_fault_map}

@@ -24,8 +24,8 @@ use Rattle.sf_genmor.specs.LookPlans.{IsRelationMatrix, basis_plan, blocks_plan}
 use Rattle.sf_genmor.specs.PresentationPlans.{HasCandidates, IsPresentable, small_rows, all_units}
 use Rattle.sf_genmor.proofs.LookAnswers.{IsMatrix-base, basis_is, basis_look, blocks_is, blocks_look}
 use Rattle.sf_genmor.proofs.SmallLooks.{HasSmallRows, small_basis, small_blocks, small_candidates_of}
-use Rattle.sf_module.specs.ModulePlans.{units_over}
-use Rattle.sf_module.proofs.SamePresentations.{basis_span}
+use Rattle.sf_genmor.specs.QuotientPlans.{units_over}
+use Rattle.sf_genmor.proofs.SamePresentations.{basis_span}
 
 -- a reduced basis of relations spans them
 relations_span : (a b blocks : Matrix) → a.ring ≡ b.ring → IsOverField a.ring → IsMatrix b → IsRelationMatrix a b blocks
@@ -61,6 +61,9 @@ module _ (ring : Ring) (field : IsOverField ring) (degrees : List ℤ) where
   positive : IsRing ring
   positive = field_ring field
 
+  pub length-units : length (units_over ring degrees).rows ≡ length degrees
+  length-units = length-by_degree (unit_rows 0 degrees) ∙ length-unit_rows 0 degrees
+
   small-units : (limit : ℕ) → length degrees ≤ GREATEST_SIZE → IsSmallReducedBasis limit (units_over ring degrees)
   small-units limit few = record {
     reduced =
@@ -69,13 +72,15 @@ module _ (ring : Ring) (field : IsOverField ring) (degrees : List ℤ) where
         (unit_basis degrees) (reduced-identity ring positive field.prime.above_one degrees) positive;
     columns = few;
     within = record {
-      few =
-          let sorted = length-by_degree (unit_rows 0 degrees) in
-          let units = length-unit_rows 0 degrees in
-          omega arith;
+      few = let units = length-units in omega arith;
       low = AllByRecursion-by_degree _ (unit_rows 0 degrees) (low_units ring.weights limit 0 degrees);
     };
   }
+
+  pub IsMatrix-units : IsMatrix (units_over ring degrees)
+  IsMatrix-units =
+      AllByRecursion-by_degree (IsVector ring degrees) (unit_rows 0 degrees)
+      (IsMatrix-identity ring field.prime.above_one degrees)
 
   -- each vector is in their span
   units-span : (v : Vector) → IsVector ring degrees v → InSpan (units_over ring degrees) v

@@ -16,7 +16,7 @@ use Rattle.std.specs.Ordering.{int_cmp, is_lt, nat_cmp, ordering_reverse, orderi
 use Rattle.sf_algebra.proofs.Basics.Lists.{AllByRecursion-weaken, take-slice_get}
 use Rattle.sf_algebra.proofs.Monomials.Comparisons.{nat_cmp-lt}
 use Rattle.sf_algebra.proofs.Monomials.Orders.{match_ordering_cases, nat_cmp-Equal, ordering_then-Equal}
-use Rattle.sf_module.specs.SortedPlaces.{insert_place, sorted_places}
+use Rattle.sf_genmor.specs.SortedPlaces.{insert_place, sorted_places}
 
 -- no item is less than one before it
 abbrev pub Ascends : {X : Type 0} → (X → X → Ordering) → List X → Type 0

@@ -1,8 +1,8 @@
 use Rattle.std.proofs.Common.{◌≡◌, ◌++◌, ◌∷◌, [], List, sym, ◌∙◌, ap, length, slice_index_or, slice_get, Some, pos, to_z, of_z, w32, ◌≤◌, subst, ℤ, rules}
 use Rattle.std.proofs.lemmas.List.{take_all}
 use Rattle.std.proofs.lemmas.Option.{slice_get-get_or}
-use Rattle.sf_module.proofs.Places.{placed, placed-take, sorted_is}
-use Rattle.sf_module.proofs.units.sorted_places.Goals as goal
+use Rattle.sf_genmor.proofs.Places.{placed, placed-take, sorted_is}
+use Rattle.sf_genmor.proofs.units.sorted_places.Goals as goal
 
 pub loop-position-preserved : goal.loop-position-preserved
 loop-position-preserved c =

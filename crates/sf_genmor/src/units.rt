@@ -1,7 +1,7 @@
 ghost use Rattle.std.specs.Prelude.{◌≡◌, IfOk};
 ghost use Rattle.sf_algebra.specs.Rings.{plain};
-ghost use Rattle.sf_module.specs.ModulePlans.{units_over};
-ghost use Rattle.sf_module.specs.SortedPlaces.{sorted_places};
+ghost use Rattle.sf_genmor.specs.QuotientPlans.{units_over};
+ghost use Rattle.sf_genmor.specs.SortedPlaces.{sorted_places};
 
 use sf_field::{Modulus, OutOfMemory};
 use sf_matrix::{Copied, Free, Matrix};

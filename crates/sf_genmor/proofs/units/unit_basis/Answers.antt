@@ -1,8 +1,8 @@
 use Rattle.std.proofs.Common.{[], ◌∙◌}
 use Rattle.sf_algebra.specs.Rings.{plain}
 use Rattle.sf_groebner.specs.MinimalGenerators.{matrix_of}
-use Rattle.sf_module.proofs.UnitRows.{basis_more, basis_whole, row_vector, row_within}
-use Rattle.sf_module.proofs.units.unit_basis.Goals as goal
+use Rattle.sf_genmor.proofs.UnitRows.{basis_more, basis_whole, row_vector, row_within}
+use Rattle.sf_genmor.proofs.units.unit_basis.Goals as goal
 
 pub loop-place-init : goal.loop-place-init
 loop-place-init c =

@@ -16,8 +16,8 @@ use Rattle.sf_genmor.specs.PresentationDegrees.{HasSmallDegrees}
 use Rattle.sf_genmor.specs.PresentationPlans.{present_plan}
 use Rattle.sf_genmor.proofs.LookAnswers.{unique_basis}
 use Rattle.sf_genmor.proofs.PresentationAnswers.{presents_module, reduced-relations}
-use Rattle.sf_module.specs.ModuleLaws.{IsSoundOver}
-use Rattle.sf_module.proofs.SamePresentations.{IsPresentation-same, basis_span}
+use Rattle.sf_genmor.specs.SoundPresentations.{IsSoundOver}
+use Rattle.sf_genmor.proofs.SamePresentations.{IsPresentation-same, basis_span}
 
 -- a presentation of N modulo the span of a basis is one modulo the span of that of which it is the basis
 pub record PresentsModulo (ring : Ring) (target : List ℤ) (N : Vector → Type 0) (m : Matrix) (p : Presentation) : Type 0 where

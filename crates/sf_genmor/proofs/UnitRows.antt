@@ -14,9 +14,9 @@ use Rattle.sf_algebra.proofs.Basics.Lists.{AllByRecursion-get, AllByRecursion-we
 use Rattle.sf_groebner.specs.MinimalGenerators.{matrix_of}
 use Rattle.sf_matrix.proofs.Pieces.{map-take}
 use Rattle.sf_presented.specs.FreeBases.{by_degree, insert_by_degree}
-use Rattle.sf_module.specs.ModulePlans.{units_over}
-use Rattle.sf_module.specs.SortedPlaces.{insert_place, sorted_places}
-use Rattle.sf_module.proofs.Places.{AllByRecursion-insert}
+use Rattle.sf_genmor.specs.QuotientPlans.{units_over}
+use Rattle.sf_genmor.specs.SortedPlaces.{insert_place, sorted_places}
+use Rattle.sf_genmor.proofs.Places.{AllByRecursion-insert}
 
 -- the unit vector of a generator
 abbrev pub unit_at : ℤ × ℕ → Vector
