@@ -1,3 +1,9 @@
 pub mod Outside
 pub mod MapFaults
 pub mod FaultSteps
+pub mod Junctions
+pub mod ComplexSteps
+pub mod ComplexFailures
+pub mod Kept
+pub mod ResolutionRuns
+pub mod Shelves

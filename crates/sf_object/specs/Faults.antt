@@ -11,6 +11,10 @@ use Rattle.sf_matrix.specs.Questions.{rest, is_zero}
 use Rattle.sf_matrix.specs.Tables.{GREATEST_REDUCED_DEGREE}
 use Rattle.sf_object.specs.declared.map.Map.{Map}
 
+-- a matrix, with the relations of the modules between which it stands
+abbrev pub map_of : Matrix → Matrix → Matrix → Map
+map_of source matrix target = record { source = source; target = target; matrix = matrix }
+
 -- over one ring, the rows stand for the generators of the source, and the columns for those of the target
 pub record IsBetween (f : Map) : Type 0 where
   pub source_ring : f.matrix.ring ≡ f.source.ring

@@ -2,7 +2,7 @@ ghost use Rattle.std.specs.Prelude.{◌≡◌, ◌+◌, ◌^◌, ◌<◌, ◌≤
 ghost use Rattle.std.specs.List.{AllByRecursion};
 ghost use Rattle.sf_matrix.specs.Meets.{Meets, IsLookOf};
 ghost use Rattle.sf_matrix.specs.Tables.{GREATEST_REDUCED_DEGREE};
-ghost use Rattle.sf_object.specs.Faults.{HasImageRoom, IsBetween, IsFirstOrNone, map_plan};
+ghost use Rattle.sf_object.specs.Faults.{HasImageRoom, IsBetween, IsFirstOrNone, map_of, map_plan};
 
 use crate::facts::matrix_facts;
 use crate::map::Map;
@@ -22,9 +22,32 @@ pub fn map_fault<B: Bases>(
     ensures meets { Meets (B.table bases.old) (map_plan f.now) result (B.table bases.new) }
     ensures counted { IfOk result (λ found. IfSome found (λ k. k + 1 < 2 ^ 64)) }
 {
-    let target = f.target.relations();
+    image_fault(
+        alloc,
+        f.source.relations(),
+        &f.matrix,
+        f.target.relations(),
+        bases,
+    )
+}
+
+/// The number, counted from 0, of the first row of `source` that `matrix` doesn't send into the span of `target`.
+///
+/// It looks at `target`.
+pub fn image_fault<B: Bases>(
+    alloc: Global,
+    source: &Matrix,
+    matrix: &Matrix,
+    target: &Matrix,
+    bases: &mut B,
+) -> Result<Option<usize>, BaseFault>
+    requires between { IsBetween (map_of source.now matrix.now target.now) }
+    requires room { HasImageRoom (map_of source.now matrix.now target.now) }
+    ensures meets { Meets (B.table bases.old) (map_plan (map_of source.now matrix.now target.now)) result (B.table bases.new) }
+    ensures counted { IfOk result (λ found. IfSome found (λ k. k + 1 < 2 ^ 64)) }
+{
     let entry = look(alloc, target, bases)?;
-    let images = f.source.relations().product(alloc, &f.matrix)?;
+    let images = source.product(alloc, matrix)?;
     matrix_facts(&images);
     Ok(first_outside(alloc, target, entry, &images, bases)?)
 }
