@@ -51,7 +51,7 @@ small_relations limit g base looked r rings targets run = by g.rows run
     by (v ∷ vs) h = small_blocks limit g base rings targets looked r h
 
 -- the zero module lies in each span
-none-inside : (m : Matrix) → IsRing m.ring → SpansInto (without_rows m) m
+pub none-inside : (m : Matrix) → IsRing m.ring → SpansInto (without_rows m) m
 none-inside m positive v h = record {
   coefficients = record { degree = v.degree; terms = [] };
   homogeneous = record { canonical = record { descending = tt; residues = tt }; homogeneous = tt };

@@ -63,7 +63,7 @@ pub small_candidates_of : (limit : ℕ) (n base : Matrix) → HasSmallRows limit
 small_candidates_of limit n base (inl h) = small_rows h.0 h.1
 small_candidates_of limit n base (inr h) = no_rows h
 
-moderate_degrees : (ds : List ℤ) → AllByRecursion IsSmallDegree ds → AllByRecursion IsModerate ds
+pub moderate_degrees : (ds : List ℤ) → AllByRecursion IsSmallDegree ds → AllByRecursion IsModerate ds
 moderate_degrees ds h = AllByRecursion-weaken IsSmallDegree IsModerate wider ds h
   where
     wider : (d : ℤ) → IsSmallDegree d → IsModerate d

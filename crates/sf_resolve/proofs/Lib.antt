@@ -1,0 +1,4 @@
+pub mod StepAnswers
+pub mod Ends
+pub mod StepMeets
+pub mod ShelfSteps
