@@ -1,0 +1,4 @@
+pub mod Functors
+pub mod FunctorLaws
+pub mod TensorPlans
+pub mod TensorLaws
