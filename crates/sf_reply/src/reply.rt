@@ -1,4 +1,4 @@
-use sf_matrix::Matrix;
+use sf_matrix::{List, Matrix};
 
 /// What is replied to a line that isn't refused.
 #[derive(Debug, Drop)]
@@ -17,6 +17,8 @@ pub enum Reply {
     Lift { matrix: Matrix },
     /// Whether the vector is in the span.
     Member { yes: bool },
+    /// The matrices of a complex or of a resolution, the one that arrives at place 0 first.
+    Differentials { steps: List<Matrix> },
     /// The generators of the module that a query presents, and the relations between them.
     Pair { gens: Matrix, rels: Matrix },
 }

@@ -35,6 +35,7 @@ fn faults(rt: HostRuntime) -> Result<(), Fail> {
         (LineFault::Shape, "error shape\n"),
         (LineFault::Degree { row: 12 }, "error degree 12\n"),
         (LineFault::NotMap { relation: 2 }, "error map 2\n"),
+        (LineFault::NotComplex { place: 3 }, "error square 3 0\n"),
         (LineFault::Range, "error range\n"),
         (LineFault::NotInSpan, "error none\n"),
         (
@@ -80,6 +81,20 @@ fn matrices(rt: HostRuntime) -> Result<(), Fail> {
     assert_eq!(rt;
         pair(alloc)?.as_slice(),
         b"gens ()->(-7) []\nrels ()->(-7) []\n".as_slice()
+    );
+    Ok(())
+}
+
+#[test]
+fn steps(rt: HostRuntime) -> Result<(), Fail> {
+    let alloc = rt.alloc();
+    let mut steps = List::new(alloc);
+    steps.push(no_rows(alloc)?)?;
+    steps.push(no_rows(alloc)?)?;
+    let text = text_of(alloc, &Reply::Differentials { steps })?;
+    assert_eq!(rt;
+        text.as_slice(),
+        b"d1 ()->(-7) []\nd2 ()->(-7) []\n".as_slice()
     );
     Ok(())
 }

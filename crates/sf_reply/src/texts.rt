@@ -1,6 +1,6 @@
 ghost use Rattle.std.specs.Prelude.{◌≡◌, ◌++◌, IfOk, OnOk};
 ghost use Rattle.sf_algebra.specs.Printing.{degrees_text};
-ghost use Rattle.sf_reply.specs.Texts.{name_text, number_text, large_text, fault_text, module_text, rows_text, reply_text};
+ghost use Rattle.sf_reply.specs.Texts.{name_text, number_text, large_text, square_text, fault_text, module_text, rows_text, step_words, steps_text, reply_text};
 
 use crate::reply::Reply;
 use itoa::Buffer;
@@ -24,6 +24,7 @@ pub fn reply_text(alloc: Global, reply: &Reply, names: &[Name]) -> Result<Vec<u8
         Reply::Lift { matrix } => push_rows(&mut out, b"lift ", names, matrix)?,
         Reply::Member { yes: true } => out.extend_from_slice(b"member yes\n")?,
         Reply::Member { yes: false } => out.extend_from_slice(b"member no\n")?,
+        Reply::Differentials { steps } => push_steps(&mut out, names, steps.as_slice())?,
         Reply::Pair { gens, rels } => {
             push_rows(&mut out, b"gens ", names, gens)?;
             push_rows(&mut out, b"rels ", names, rels)?;
@@ -46,6 +47,7 @@ pub fn fault_text(fault: &LineFault, out: &mut Vec<u8>) -> Result<(), OutOfMemor
         LineFault::Shape => out.extend_from_slice(b"error shape\n")?,
         LineFault::Degree { row } => push_number(out, b"error degree ", *row)?,
         LineFault::NotMap { relation } => push_number(out, b"error map ", *relation)?,
+        LineFault::NotComplex { place } => push_square(out, *place)?,
         LineFault::Range => out.extend_from_slice(b"error range\n")?,
         LineFault::NotInSpan => out.extend_from_slice(b"error none\n")?,
         LineFault::Large { rows, cols } => push_large(out, *rows, *cols)?,
@@ -74,6 +76,16 @@ fn push_number(out: &mut Vec<u8>, words: &[u8], number: u64) -> Result<(), OutOf
     Ok(())
 }
 
+fn push_square(out: &mut Vec<u8>, place: u64) -> Result<(), OutOfMemory>
+    ensures { OnOk result (out.new.items ≡ out.old.items ++ square_text place) }
+{
+    let mut buffer = Buffer::new();
+    out.extend_from_slice(b"error square ")?;
+    out.extend_from_slice(buffer.format(place).as_bytes())?;
+    out.extend_from_slice(b" 0\n")?;
+    Ok(())
+}
+
 fn push_large(out: &mut Vec<u8>, rows: u64, cols: u64) -> Result<(), OutOfMemory>
     ensures { OnOk result (out.new.items ≡ out.old.items ++ large_text rows cols) }
 {
@@ -99,6 +111,30 @@ fn push_rows(
     print_matrix(out, names, matrix)?;
     out.push(b'\n')?;
     Ok(())
+}
+
+/// Appends the matrices of a complex, each behind the place from which it leaves.
+fn push_steps(out: &mut Vec<u8>, names: &[Name], steps: &[Matrix]) -> Result<(), OutOfMemory>
+    ensures { OnOk result (out.new.items ≡ out.old.items ++ steps_text names.now 1 steps.now) }
+{
+    for (before, step) in steps.iter().enumerate() {
+        push_step(out, before as u64 + 1, names, step)?;
+    }
+    Ok(())
+}
+
+fn push_step(
+    out: &mut Vec<u8>,
+    place: u64,
+    names: &[Name],
+    step: &Matrix,
+) -> Result<(), OutOfMemory>
+    ensures { OnOk result (out.new.items ≡ out.old.items ++ rows_text (step_words place) names.now step.now) }
+{
+    let mut buffer = Buffer::new();
+    out.push(b'd')?;
+    out.extend_from_slice(buffer.format(place).as_bytes())?;
+    push_rows(out, b" ", names, step)
 }
 
 fn push_module(out: &mut Vec<u8>, names: &[Name], relations: &Matrix) -> Result<(), OutOfMemory>

@@ -1,5 +1,6 @@
 pub mod FoundNames
 pub mod KindReaches
 pub mod Lines
+pub mod NamedMaps
 pub mod PutNames
 pub mod Tables

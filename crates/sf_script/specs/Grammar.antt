@@ -72,6 +72,23 @@ map_row = record {
   build = λ v. commands.Map v.0 v.1.0 v.1.1.0 v.1.1.1.0;
 }
 
+-- complex NAME maps MAP .. MAP
+abbrev pub complex_row : Row Command
+complex_row = record {
+  spelling = codes "complex";
+  items = one Name ∷ word (codes "maps") ∷ one Name ∷ many Name ∷ [];
+  build = λ v. commands.Complex v.0 (v.1.0 ∷ v.1.1.0);
+}
+
+-- what ends such a line: at least one name
+abbrev pub names_behind : List (List ℕ) → Option (List (List ℕ))
+names_behind ws = option_map (λ v. v.0 ∷ v.1.0) (values Value word_value (one Name ∷ many Name ∷ []) ws)
+
+-- resolve NAME STEPS
+abbrev pub resolve_row : Row Command
+resolve_row =
+    record { spelling = codes "resolve"; items = one Name ∷ one Integer ∷ []; build = λ v. commands.Resolve v.0 v.1.0 }
+
 -- WORD NAME
 abbrev pub named_row : {C : Type 0} → List ℕ → (List ℕ → C) → Row C
 named_row spelling build = record { spelling = spelling; items = one Name ∷ []; build = λ v. build v.0 }
@@ -102,18 +119,18 @@ ask_row query =
 -- the commands that are built, save the lines that give a name to what is asked for
 abbrev pub built : List (Row Command)
 built =
-    spectral_row ∷ ring_row ∷ limit_row ∷ module_row ∷ map_row
+    spectral_row ∷ ring_row ∷ limit_row ∷ module_row ∷ map_row ∷ complex_row
     ∷ named_row (codes "show") commands.Show
     ∷ named_row (codes "basis") commands.Basis
     ∷ named_row (codes "syz") commands.Syz
     ∷ vector_row (codes "member") commands.Member
-    ∷ vector_row (codes "lift") commands.Lift
+    ∷ vector_row (codes "lift") commands.Lift ∷ resolve_row
     ∷ map ask_row queries
 
 -- the command words that the language has and that aren't built yet
 abbrev pub later_words : List (List ℕ)
 later_words =
-    codes "complex" ∷ codes "bicomplex" ∷ codes "at" ∷ codes "dh" ∷ codes "dv" ∷ codes "seal" ∷ codes "resolve"
+    codes "bicomplex" ∷ codes "at" ∷ codes "dh" ∷ codes "dv" ∷ codes "seal"
     ∷ codes "hom" ∷ codes "tensor" ∷ codes "ext" ∷ codes "tor" ∷ codes "page" ∷ codes "diff" ∷ codes "next"
     ∷ codes "total" ∷ codes "filtration" ∷ codes "purity" ∷ codes "witness" ∷ codes "work" ∷ codes "balance"
     ∷ codes "connect" ∷ codes "hyper" ∷ []
@@ -197,13 +214,14 @@ forms =
 abbrev pub is_line : List ℕ → Bool
 is_line line = fits_some kinds forms line
 
--- the degrees of a command have at most six digits, and a ring has a variable
+-- the degrees of a command have at most six digits, a ring has a variable, and a complex a map
 abbrev pub IsWritten : Command → Type 0
 IsWritten (commands.Spectral version) = Unit {0}
 IsWritten (commands.Ring modulus names) = 1 ≤ length names
 IsWritten (commands.Limit limit) = Unit {0}
 IsWritten (commands.Module name degrees relations) = IsTrue (list_all is_written_degree degrees)
 IsWritten (commands.Map name source target matrix) = Unit {0}
+IsWritten (commands.Complex name maps) = 1 ≤ length maps
 IsWritten (commands.Let name query) = Unit {0}
 IsWritten (commands.Ask query) = Unit {0}
 IsWritten (commands.Show name) = Unit {0}
@@ -211,4 +229,5 @@ IsWritten (commands.Basis name) = Unit {0}
 IsWritten (commands.Syz name) = Unit {0}
 IsWritten (commands.Member name vector) = Unit {0}
 IsWritten (commands.Lift name vector) = Unit {0}
+IsWritten (commands.Resolve name steps) = Unit {0}
 IsWritten commands.Later = Unit {0}

@@ -1,8 +1,10 @@
 -- Why a line of the grammar is refused, before any matrix is looked at.
-use Rattle.std.specs.Prelude.{ℕ, Bool, is_none, ◌&&◌, if◌then◌else◌, Option, Some, None, Result, Ok, Err, List, length, ℤ, pos, neg_ℤ, int_le, IsTrue}
+use Rattle.std.specs.Prelude.{ℕ, Bool, true, is_none, ◌&&◌, if◌then◌else◌, Option, Some, None, Result, Ok, Err, List, [], ◌∷◌, length, ℤ, pos, neg_ℤ, int_le, unsigned_abs, IsTrue}
 use Rattle.std.specs.List.{AllByRecursion, list_all}
 use Rattle.sf_algebra.specs.Matrices.{Matrix}
 use Rattle.sf_algebra.specs.Vectors.{Vector}
+use Rattle.sf_algebra.proofs.GradedMatrices.Equality.{same_matrix}
+use Rattle.sf_object.specs.declared.complex.Complex as complexes
 use Rattle.sf_object.specs.declared.map.Map as maps
 use Rattle.sf_text.specs.Placed.{has_shape, has_size, relations_of, matrix_between, first_fault, row_vector, is_single_row, first_row, is_homogeneous, is_written_degree}
 use Rattle.sf_text.specs.Raw.{RawTerm}
@@ -14,7 +16,7 @@ use Rattle.sf_script.specs.declared.checked.Checked.TheVariants as checks
 use Rattle.sf_script.specs.declared.checked.Checked.{Checked}
 use Rattle.sf_script.specs.declared.checked.CheckedQuery.TheVariants as asked
 use Rattle.sf_script.specs.declared.checked.CheckedQuery.{CheckedQuery}
-use Rattle.sf_script.specs.declared.command.Command.TheVariants.{Spectral, Ring, Limit, Module, Map, Let, Ask, Show, Basis, Syz, Member, Lift, Later}
+use Rattle.sf_script.specs.declared.command.Command.TheVariants.{Spectral, Ring, Limit, Module, Map, Complex, Let, Ask, Show, Basis, Syz, Member, Lift, Resolve, Later}
 use Rattle.sf_script.specs.declared.command.Command.{Command}
 use Rattle.sf_script.specs.declared.command.Query.TheVariants.{Kernel, Image, Coker}
 use Rattle.sf_script.specs.declared.command.Query.{Query}
@@ -59,11 +61,13 @@ is_new env client name = provided (faults.Taken name) (is_none (named client env
 abbrev pub as_module : List ℕ → Named → Result Matrix LineFault
 as_module name (names.Module relations) = Ok relations
 as_module name (names.Mapping f) = Err (faults.Kind name)
+as_module name (names.Chain c) = Err (faults.Kind name)
 
 -- it is a map
 abbrev pub as_map : List ℕ → Named → Result maps.Map LineFault
 as_map name (names.Module relations) = Err (faults.Kind name)
 as_map name (names.Mapping f) = Ok f
+as_map name (names.Chain c) = Err (faults.Kind name)
 
 -- the variables of a matrix are the ring's
 abbrev pub are_variables : rings.Ring → List (List (List RawTerm)) → Result (Unit {0}) LineFault
@@ -120,6 +124,48 @@ map_named env client name = do
   found ← checked_name env client name
   as_map name found
 
+-- all names are known, else the first that isn't gives the refusal
+abbrev pub are_known : Env → List ℕ → List (List ℕ) → Result (Unit {0}) LineFault
+are_known env client [] = Ok tt
+are_known env client (name ∷ names) = do
+  _ ← known env client name
+  are_known env client names
+
+-- the maps that names stand for, in order
+abbrev pub maps_named : Env → List ℕ → List (List ℕ) → Result (List maps.Map) LineFault
+maps_named env client [] = Ok []
+maps_named env client (name ∷ names) = do
+  f ← map_named env client name
+  others ← maps_named env client names
+  Ok (f ∷ others)
+
+-- a map, and then the next of a complex: the second goes to where the first comes from
+abbrev pub do_meet : List maps.Map → Bool
+do_meet [] = true
+do_meet (f ∷ []) = true
+do_meet (f ∷ g ∷ others) = same_matrix f.source g.target && do_meet (g ∷ others)
+
+-- a complex with a new name of maps that meet
+abbrev pub checked_complex : Env → List ℕ → List ℕ → List (List ℕ) → Result complexes.Complex LineFault
+checked_complex env client name names = do
+  _ ← ring_given env
+  _ ← are_known env client names
+  fs ← maps_named env client names
+  _ ← is_new env client name
+  _ ← provided faults.Shape (do_meet fs)
+  Ok (record { maps = fs })
+
+-- so many steps of a resolution may be asked for
+abbrev pub steps_asked : ℤ → Option ℕ
+steps_asked k = if int_le (pos 1) k && int_le k (pos 16) then Some (unsigned_abs k) else None
+
+-- a known module, and how many steps of its resolution are asked for
+abbrev pub checked_resolve : Env → List ℕ → List ℕ → ℤ → Result (Matrix × ℕ) LineFault
+checked_resolve env client name steps = do
+  m ← module_named env client name
+  k ← otherwise faults.Range (steps_asked steps)
+  Ok (m, k)
+
 -- a known module, and a vector over its generators, which a matrix of one row writes
 abbrev pub checked_vector : Env → List ℕ → List ℕ → List (List (List RawTerm)) → Result (Matrix × Vector) LineFault
 checked_vector env client name rows = do
@@ -160,6 +206,9 @@ checked env client (Module name degrees relations) = do
 checked env client (Map name source target matrix) = do
   f ← checked_map env client name source target matrix.rows
   Ok (checks.Maps name f)
+checked env client (Complex name names) = do
+  c ← checked_complex env client name names
+  Ok (checks.Chains name c)
 checked env client (Let name query) = do
   q ← checked_query env client query
   _ ← is_new env client name
@@ -182,12 +231,16 @@ checked env client (Member name vector) = do
 checked env client (Lift name vector) = do
   given ← checked_vector env client name vector.rows
   Ok (checks.Lift given.0 given.1)
+checked env client (Resolve name steps) = do
+  given ← checked_resolve env client name steps
+  Ok (checks.Resolves given.0 given.1)
 checked env client Later = Err faults.Later
 
 -- the degrees of the generators of a module that a name stands for have at most six digits
 abbrev pub HasWrittenDegrees : Named → Type 0
 HasWrittenDegrees (names.Module m) = IsTrue (list_all is_written_degree m.target)
 HasWrittenDegrees (names.Mapping f) = Unit {0}
+HasWrittenDegrees (names.Chain c) = Unit {0}
 
 -- so it is with all names
 abbrev pub HasWrittenModules : Env → Type 0

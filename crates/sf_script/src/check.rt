@@ -7,11 +7,13 @@ ghost use Rattle.sf_script.specs.declared.check.stop.Stop.TheVariants.{Refused};
 ghost use Rattle.sf_script.specs.declared.fault.LineFault.{LineFault};
 ghost use Rattle.sf_script.specs.declared.fault.LineFault.TheVariants as faults;
 
+mod complexes;
 mod definitions;
 mod queries;
 mod steps;
 mod stop;
 
+use crate::check::complexes::{checked_complex, checked_resolve};
 use crate::check::definitions::{checked_map, checked_module, checked_vector};
 use crate::check::queries::{checked_name, checked_query, module_named};
 use crate::check::steps::{is_new, provided};
@@ -27,7 +29,7 @@ use sf_text::Ring;
 use std::alloc::Global;
 
 /// What a command of a client asks for, with the things that its names stand for, or the first reason to refuse it before any
-/// matrix is looked at: none of `Syntax`, `NotMap`, `NotInSpan` and `Large`.
+/// matrix is looked at: none of `Syntax`, `NotMap`, `NotComplex`, `NotInSpan` and `Large`.
 pub fn check_line(
     alloc: Global,
     env: &Env,
@@ -79,6 +81,10 @@ fn checked(alloc: Global, env: &Env, client: &Name, command: Command) -> Result<
             let map = checked_map(alloc, env, client, &name, &source, &target, &matrix)?;
             Ok(Checked::Maps(name, map))
         }
+        Command::Complex { name, maps } => {
+            let complex = checked_complex(alloc, env, client, &name, maps.as_slice())?;
+            Ok(Checked::Chains(name, complex))
+        }
         Command::Let { name, query } => {
             let query = checked_query(alloc, env, client, &query)?;
             is_new(alloc, env, client, &name)?;
@@ -95,6 +101,10 @@ fn checked(alloc: Global, env: &Env, client: &Name, command: Command) -> Result<
         Command::Lift { name, vector } => {
             let (module, vector) = checked_vector(alloc, env, client, &name, &vector)?;
             Ok(Checked::Lift(module, vector))
+        }
+        Command::Resolve { name, steps } => {
+            let (module, steps) = checked_resolve(alloc, env, client, &name, steps)?;
+            Ok(Checked::Resolves(module, steps))
         }
         Command::Later => Err(Stop::Refused(LineFault::Later)),
     }

@@ -1,6 +1,6 @@
 use crate::named::Named;
 use sf_matrix::{Matrix, Name, Vector};
-use sf_object::{Map, Presented};
+use sf_object::{Complex, Map, Presented};
 use sf_text::Ring;
 
 /// What a query asks for, of a map that is known.
@@ -22,6 +22,8 @@ pub enum Checked {
     Defines(Name, Presented),
     /// A map with this name. Whether it sends relations into relations isn't known yet.
     Maps(Name, Map),
+    /// A complex with this name, whose maps meet in equal modules. Whether they are zero one after another isn't known yet.
+    Chains(Name, Complex),
     /// This name for the module that a query presents.
     Lets(Name, CheckedQuery),
     Asks(CheckedQuery),
@@ -34,4 +36,6 @@ pub enum Checked {
     Member(Presented, Vector),
     /// The coefficients by which such a vector is a combination of the relations.
     Lift(Presented, Vector),
+    /// So many steps of the module's resolution, from 1 to 16.
+    Resolves(Presented, u32),
 }

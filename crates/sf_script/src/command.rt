@@ -41,6 +41,11 @@ pub enum Command {
         target: Name,
         matrix: RawMatrix,
     },
+    /// A complex: its maps, the one that arrives at place 0 first.
+    Complex {
+        name: Name,
+        maps: List<Name>,
+    },
     /// A name for the module that a query presents.
     Let {
         name: Name,
@@ -50,7 +55,7 @@ pub enum Command {
     Ask {
         query: Query,
     },
-    /// The relations of a module, or the matrix of a map.
+    /// The relations of a module, the matrix of a map, or those of a complex.
     Show {
         name: Name,
     },
@@ -71,6 +76,11 @@ pub enum Command {
     Lift {
         name: Name,
         vector: RawMatrix,
+    },
+    /// So many steps of the resolution of a module.
+    Resolve {
+        name: Name,
+        steps: i32,
     },
     /// A command that isn't built yet.
     Later,

@@ -43,14 +43,12 @@ pub enum Item {
 }
 
 /// The command words that the language has and that aren't built yet.
-pub const LATER_WORDS: [&[u8]; 22] = [
-    b"complex",
+pub const LATER_WORDS: [&[u8]; 20] = [
     b"bicomplex",
     b"at",
     b"dh",
     b"dv",
     b"seal",
-    b"resolve",
     b"hom",
     b"tensor",
     b"ext",
@@ -72,7 +70,7 @@ pub const LATER_WORDS: [&[u8]; 22] = [
 pub const LATER_QUERIES: [&[u8]; 6] = [b"hom", b"tensor", b"ext", b"tor", b"page", b"total"];
 
 /// The forms of the lines that are read to their end, and of those of `let` that aren't built.
-const FORMS: [&[Item]; 22] = [
+const FORMS: [&[Item]; 24] = [
     &[Word(b"spectral"), One(Integer)],
     &[Word(b"ring"), One(Number), One(Name), Many(Name)],
     &[Word(b"limit"), One(Integer)],
@@ -85,11 +83,19 @@ const FORMS: [&[Item]; 22] = [
         One(Matrix),
     ],
     &[Word(b"map"), One(Name), One(Name), One(Name), One(Matrix)],
+    &[
+        Word(b"complex"),
+        One(Name),
+        Word(b"maps"),
+        One(Name),
+        Many(Name),
+    ],
     &[Word(b"show"), One(Name)],
     &[Word(b"basis"), One(Name)],
     &[Word(b"syz"), One(Name)],
     &[Word(b"member"), One(Name), One(Matrix)],
     &[Word(b"lift"), One(Name), One(Matrix)],
+    &[Word(b"resolve"), One(Name), One(Integer)],
     &[Word(b"kernel"), One(Name)],
     &[Word(b"image"), One(Name)],
     &[Word(b"coker"), One(Name)],

@@ -1,6 +1,6 @@
 use sf_field::OutOfMemory;
 use sf_matrix::Copied;
-use sf_object::{Map, Presented};
+use sf_object::{Complex, Map, Presented};
 use std::alloc::Global;
 
 /// What a name stands for.
@@ -9,6 +9,7 @@ pub enum Named {
     /// A module, by its relations.
     Module(Presented),
     Mapping(Map),
+    Chain(Complex),
 }
 
 impl Copied for Named {
@@ -16,6 +17,7 @@ impl Copied for Named {
         match self {
             Named::Module(module) => Ok(Named::Module(module.copy(alloc)?)),
             Named::Mapping(map) => Ok(Named::Mapping(map.copy(alloc)?)),
+            Named::Chain(complex) => Ok(Named::Chain(complex.copy(alloc)?)),
         }
     }
 }

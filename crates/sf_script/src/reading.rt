@@ -3,7 +3,7 @@ ghost use Rattle.std.specs.List.{list_all};
 ghost use Rattle.std.specs.Option.{option_map};
 ghost use Rattle.sf_grammar.specs.FormValues.{is_end, after, first_of, leading};
 ghost use Rattle.sf_grammar.specs.Words.{words, is_space};
-ghost use Rattle.sf_script.specs.Grammar.{row_reading, reading, spectral_row, ring_row, limit_row, module_row, relations_of, map_row, queries, built, later_queries, is_among, definition, named_query, name_argument, vector_arguments, command_of, is_silent, written_line, IsWritten};
+ghost use Rattle.sf_script.specs.Grammar.{row_reading, reading, spectral_row, ring_row, limit_row, module_row, relations_of, map_row, complex_row, names_behind, resolve_row, queries, built, later_queries, is_among, definition, named_query, name_argument, vector_arguments, command_of, is_silent, written_line, IsWritten};
 ghost use Rattle.sf_script.specs.Readings.{IsReading};
 ghost use Rattle.sf_text.specs.ReadTexts.{LONGEST_TEXT};
 ghost use Rattle.sf_script.specs.Kinds.{word_value};
@@ -158,6 +158,9 @@ fn read_built(alloc: Global, first: &[u8], arguments: &[u8]) -> Result<Option<Co
     if first == b"map".as_slice() {
         return read_map(alloc, arguments);
     }
+    if first == b"complex".as_slice() {
+        return read_complex(alloc, arguments);
+    }
     if first == b"show".as_slice() {
         return Ok(read_name(alloc, arguments)?.map(|name| Command::Show { name }));
     }
@@ -174,6 +177,9 @@ fn read_built(alloc: Global, first: &[u8], arguments: &[u8]) -> Result<Option<Co
     if first == b"lift".as_slice() {
         let given = read_vector(alloc, arguments)?;
         return Ok(given.map(|(name, vector)| Command::Lift { name, vector }));
+    }
+    if first == b"resolve".as_slice() {
+        return read_resolve(alloc, arguments);
     }
     Ok(read_query(alloc, first, arguments)?.map(|query| Command::Ask { query }))
 }
@@ -282,6 +288,57 @@ fn read_map(alloc: Global, arguments: &[u8]) -> Result<Option<Command>, OutOfMem
         target,
         matrix,
     }))
+}
+
+fn read_complex(alloc: Global, arguments: &[u8]) -> Result<Option<Command>, OutOfMemory>
+    ensures value { IfOk result (λ r. r ≡ row_reading complex_row (words arguments.now)) }
+    ensures written { IfOk result (λ r. IfSome r IsWritten) }
+{
+    let Some((name, rest)) = take_name(alloc, arguments)? else {
+        return Ok(None);
+    };
+    let Some(rest) = after_word(rest, b"maps") else {
+        return Ok(None);
+    };
+    match read_names(alloc, rest)? {
+        None => Ok(None),
+        Some(maps) => Ok(Some(Command::Complex { name, maps })),
+    }
+}
+
+/// The names that end a line, at least one.
+fn read_names(alloc: Global, line: &[u8]) -> Result<Option<List<Name>>, OutOfMemory>
+    ensures value { IfOk result (λ r. r ≡ names_behind (words line.now)) }
+    ensures some { IfOk result (λ r. IfSome r (λ names. 1 ≤ length names)) }
+{
+    let Some((first, rest)) = take_name(alloc, line)? else {
+        return Ok(None);
+    };
+    let mut names = List::new(alloc);
+    names.push(first)?;
+    let (names, rest) = take_names(alloc, names, rest)?;
+    if is_end(rest) {
+        Ok(Some(names))
+    } else {
+        Ok(None)
+    }
+}
+
+fn read_resolve(alloc: Global, arguments: &[u8]) -> Result<Option<Command>, OutOfMemory>
+    ensures value { IfOk result (λ r. r ≡ row_reading resolve_row (words arguments.now)) }
+    ensures written { IfOk result (λ r. IfSome r IsWritten) }
+{
+    let Some((name, rest)) = take_name(alloc, arguments)? else {
+        return Ok(None);
+    };
+    let Some((steps, rest)) = take_integer(rest) else {
+        return Ok(None);
+    };
+    if is_end(rest) {
+        Ok(Some(Command::Resolve { name, steps }))
+    } else {
+        Ok(None)
+    }
 }
 
 /// The one argument of a command, where it is a name.

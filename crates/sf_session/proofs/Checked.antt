@@ -8,18 +8,21 @@ use Rattle.sf_algebra.specs.Matrices.{Matrix}
 use Rattle.sf_algebra.specs.Rings.{plain}
 use Rattle.sf_algebra.specs.Vectors.{Vector, IsVector}
 use Rattle.sf_field.specs.Moduli.{is_modulus}
+use Rattle.sf_algebra.proofs.GradedMatrices.Equality.{same_matrix, Decides-same_matrix}
+use Rattle.sf_object.specs.declared.complex.Complex as complexes
 use Rattle.sf_object.specs.declared.map.Map as maps
+use Rattle.sf_object.specs.Complexes.{AreMeeting, junctions}
 use Rattle.sf_text.specs.Placed.{first_fault, first_row, has_shape, has_size, is_homogeneous, is_single_row, matrix_between, relations_of, row_vector}
 use Rattle.sf_text.specs.Raw.{RawTerm}
 use Rattle.sf_text.specs.declared.ring.Ring as rings
 use Rattle.sf_script.specs.Headings.{ring_of, opens, enters, limit_entered, is_limit, are_distinct}
 use Rattle.sf_script.specs.Names.{Env, named}
-use Rattle.sf_script.specs.Refusals.{provided, ring_given, known, is_new, as_module, as_map, are_variables, are_homogeneous, is_degree, checked_module, checked_map, checked_name, module_named, map_named, checked_vector, checked_query, checked}
+use Rattle.sf_script.specs.Refusals.{provided, ring_given, known, is_new, as_module, as_map, are_variables, are_homogeneous, is_degree, checked_module, checked_map, checked_name, module_named, map_named, checked_vector, checked_query, checked, are_known, maps_named, do_meet, checked_complex, checked_resolve}
 use Rattle.sf_script.specs.declared.checked.Checked.TheVariants as checks
 use Rattle.sf_script.specs.declared.checked.Checked.{Checked}
 use Rattle.sf_script.specs.declared.checked.CheckedQuery.TheVariants as asked
 use Rattle.sf_script.specs.declared.checked.CheckedQuery.{CheckedQuery}
-use Rattle.sf_script.specs.declared.command.Command.TheVariants.{Spectral, Ring, Limit, Module, Map, Let, Ask, Show, Basis, Syz, Member, Lift, Later}
+use Rattle.sf_script.specs.declared.command.Command.TheVariants.{Spectral, Ring, Limit, Module, Map, Complex, Let, Ask, Show, Basis, Syz, Member, Lift, Resolve, Later}
 use Rattle.sf_script.specs.declared.command.Command.{Command}
 use Rattle.sf_script.specs.declared.command.Query.TheVariants.{Kernel, Image, Coker}
 use Rattle.sf_script.specs.declared.command.Query.{Query}
@@ -29,7 +32,7 @@ use Rattle.sf_script.specs.declared.heads.Heads.{Heads}
 use Rattle.sf_script.specs.declared.heads.Setting.{Setting}
 use Rattle.sf_script.specs.declared.named.Named.TheVariants as names
 use Rattle.sf_script.specs.declared.named.Named.{Named}
-use Rattle.sf_session.specs.SoundChecks.{IsWithin, IsGiven, HaveOwnDegrees, IsDefined, IsMatrixIn, IsAsked, IsVectorOf, IsLimited, IsRing, IsSoundCheck}
+use Rattle.sf_session.specs.SoundChecks.{IsWithin, IsGiven, HaveOwnDegrees, IsDefined, IsMatrixIn, IsChained, IsAsked, IsVectorOf, IsLimited, IsRing, IsSoundCheck}
 use Rattle.sf_session.specs.Sound.{IsSound, IsModuleIn, IsMapIn, IsNamedIn}
 use Rattle.sf_session.proofs.Checks.{both_ok, same_accepted, otherwise_ok, provided_ok, unless_some_ok}
 use Rattle.sf_session.proofs.Degrees.{are_generator_degrees}
@@ -76,10 +79,12 @@ module _ (env : Env) (sound : IsSound env) (client : List ℕ) where
       → IsNamedIn ring what → IsModuleIn ring m
   module_found ring name (names.Module other) m e h = let same : other ≡ m = cc in subst (IsModuleIn ring) same h
   module_found ring name (names.Mapping f) m e h = cc
+  module_found ring name (names.Chain c) m e h = cc
 
   map_found : (ring : rings.Ring) (name : List ℕ) (what : Named) (f : maps.Map) → as_map name what ≡ Ok f
       → IsNamedIn ring what → IsMapIn ring f
   map_found ring name (names.Module other) f e h = cc
+  map_found ring name (names.Chain c) f e h = cc
   map_found ring name (names.Mapping other) f e h = let same : other ≡ f = cc in subst (IsMapIn ring) same h
 
   -- a map that a query names
@@ -215,6 +220,52 @@ module _ (env : Env) (sound : IsSound env) (client : List ℕ) where
         own = refl;
       })
 
+  -- maps that a line names, within the setting in which a ring is given
+  maps_sound : (setting : Setting) → IsWithin env setting → (names : List (List ℕ)) (fs : List maps.Map)
+      → maps_named env client names ≡ Ok fs → AllByRecursion (IsMapIn setting.ring) fs
+  maps_sound setting within [] fs e =
+      let same : [] ≡ fs = cc in subst (AllByRecursion (IsMapIn setting.ring)) same tt
+  maps_sound setting within (name ∷ names) fs e =
+      let first = both_ok (map_named env client name) _ fs e in
+      let others = both_ok (maps_named env client names) _ fs first.2 in
+      let f = asked_map name first.0 first.1 in
+      let same : first.0 ∷ others.0 ≡ fs = cc in
+      let one : f.0 ≡ setting = within_one f.0 setting f.1 within in
+      subst (AllByRecursion (IsMapIn setting.ring)) same
+      (subst (λ (s : Setting). IsMapIn s.ring first.0) one f.2, maps_sound setting within names others.0 others.1)
+    where
+      within_one : (s t : Setting) → IsWithin env s → IsWithin env t → s ≡ t
+      within_one s t h k = let both : Within s ≡ Within t = sym h ∙ k in cc
+
+  -- maps that meet in equal modules
+  maps_meet : (fs : List maps.Map) → do_meet fs ≡ true → AllByRecursion AreMeeting (junctions fs)
+  maps_meet [] e = tt
+  maps_meet (f ∷ []) e = tt
+  maps_meet (f ∷ g ∷ fs) e =
+      let both = and_parts (same_matrix f.source g.target) (do_meet (g ∷ fs)) e in
+      ((Decides-same_matrix f.source g.target).0 both.0, maps_meet (g ∷ fs) both.1)
+
+  -- a complex that is defined
+  complex_sound : (name : List ℕ) (names : List (List ℕ)) (c : complexes.Complex)
+      → checked_complex env client name names ≡ Ok c → IsChained env c
+  complex_sound name names c e =
+      let given = both_ok (ring_given env) _ c e in
+      let setting = ring_setting env given.0 given.1 in
+      let all_known = both_ok (are_known env client names) _ c given.2 in
+      let fs = both_ok (maps_named env client names) _ c all_known.2 in
+      let new = both_ok (is_new env client name) _ c fs.2 in
+      let meet = both_ok (provided faults.Shape (do_meet fs.0)) _ c new.2 in
+      let same : record { maps = fs.0 } ≡ c = cc in
+      subst (IsChained env) same
+      (record {
+        setting = setting.0;
+        within = setting.1;
+        chain_in = record {
+          maps = maps_sound setting.0 setting.1 names fs.0 fs.1;
+          meeting = maps_meet fs.0 (provided_ok faults.Shape (do_meet fs.0) meet.0 meet.1);
+        };
+      })
+
   -- where a name is found a ring is given
   given_ring : (name : List ℕ) (what : Named) → checked_name env client name ≡ Ok what → IsGiven env
   given_ring name what e =
@@ -278,6 +329,10 @@ module _ (env : Env) (sound : IsSound env) (client : List ℕ) where
       let f = both_ok (checked_map env client name source target matrix.rows) _ c e in
       let same : checks.Maps name f.0 ≡ c = cc in
       subst (IsSoundCheck env) same (matrix_sound name source target matrix.rows f.0 f.1)
+  checked_sound (Complex name names) c written e =
+      let chain = both_ok (checked_complex env client name names) _ c e in
+      let same : checks.Chains name chain.0 ≡ c = cc in
+      subst (IsSoundCheck env) same (complex_sound name names chain.0 chain.1)
   checked_sound (Let name query) c written e =
       let q = both_ok (checked_query env client query) _ c e in
       let new = both_ok (is_new env client name) _ c q.2 in
@@ -309,4 +364,10 @@ module _ (env : Env) (sound : IsSound env) (client : List ℕ) where
       let given = both_ok (checked_vector env client name vector.rows) _ c e in
       let same : checks.Lift given.0.0 given.0.1 ≡ c = cc in
       subst (IsSoundCheck env) same (vector_sound name vector.rows given.0 given.1)
+  checked_sound (Resolve name steps) c written e =
+      let given = both_ok (checked_resolve env client name steps) _ c e in
+      let m = both_ok (module_named env client name) _ given.0 given.1 in
+      let found = both_ok (checked_name env client name) _ m.0 m.1 in
+      let same : checks.Resolves given.0.0 given.0.1 ≡ c = cc in
+      subst (IsSoundCheck env) same (given_ring name found.0 found.1)
   checked_sound Later c written e = cc

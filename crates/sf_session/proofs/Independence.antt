@@ -1,5 +1,5 @@
 -- The reply to a line that gives no limit is fixed by the accepted headings and the names, and a query changes neither.
-use Rattle.std.proofs.Common.{◌≡◌, ℕ, Bool, true, false, if◌then◌else◌, List, [], ◌∷◌, ◌++◌, Option, Some, None, Result, Ok, Err, refl, sym, ap, ◌∙◌, subst}
+use Rattle.std.proofs.Common.{◌≡◌, ℕ, Bool, true, false, List, [], ◌∷◌, ◌++◌, Some, None, Result, Ok, Err, refl, sym, ap, ◌∙◌, subst}
 use Rattle.std.specs.List.{AllByRecursion}
 use Rattle.std.specs.Prelude.{MatchResult}
 use Rattle.sf_algebra.specs.Matrices.{Matrix}
@@ -10,12 +10,11 @@ use Rattle.sf_matrix.specs.Runs.{Run}
 use Rattle.sf_script.specs.Grammar.{Reading, Silent, Malformed, Read, line_of}
 use Rattle.sf_script.specs.Headings.{limited, noted}
 use Rattle.sf_script.specs.Names.{Env}
-use Rattle.sf_script.specs.Refusals.{checked, checked_query, checked_name, module_named, checked_vector}
+use Rattle.sf_script.specs.Refusals.{checked, checked_query, checked_name, module_named, checked_vector, checked_resolve}
 use Rattle.sf_script.specs.declared.checked.Checked.TheVariants as checks
 use Rattle.sf_script.specs.declared.checked.Checked.{Checked}
-use Rattle.sf_script.specs.declared.command.Command.TheVariants.{Spectral, Ring, Limit, Module, Map, Let, Ask, Show, Basis, Syz, Member, Lift, Later}
+use Rattle.sf_script.specs.declared.command.Command.TheVariants.{Spectral, Ring, Limit, Module, Map, Complex, Let, Ask, Show, Basis, Syz, Member, Lift, Resolve, Later}
 use Rattle.sf_script.specs.declared.command.Command.{Command}
-use Rattle.sf_script.specs.declared.command.Line.{Line}
 use Rattle.sf_script.specs.declared.fault.LineFault.TheVariants as faults
 use Rattle.sf_script.specs.declared.fault.LineFault.{LineFault}
 use Rattle.sf_script.specs.declared.heads.Heads.TheVariants.{Unopened, Opened, Within}
@@ -32,7 +31,7 @@ use Rattle.sf_session.specs.declared.outcome.Outcome.TheVariants as outs
 use Rattle.sf_session.specs.declared.outcome.Outcome.{Outcome}
 use Rattle.sf_session.proofs.Checks.{both_ok}
 use Rattle.sf_session.proofs.OneOutput.{Answers-append, IsOne-Answers, answers_sound, start_sound}
-use Rattle.sf_session.proofs.OneReply.{IsOne, step_one}
+use Rattle.sf_session.proofs.OneReply.{step_one}
 
 -- headings that agree differ in the note alone
 note_of : (h k : Heads) → with_note false h ≡ with_note false k → (b : Bool) × (k ≡ with_note b h)
@@ -93,6 +92,7 @@ checked_over b env client command none = by env.heads command none
     by (Within setting) (Limit limit) e = cc
     by (Within setting) (Module name degrees relations) e = refl
     by (Within setting) (Map name source target matrix) e = refl
+    by (Within setting) (Complex name maps) e = refl
     by (Within setting) (Let name query) e = asked query
       where
         asked : (q : _) → checked (record env { heads = with_note b (Within setting) }) client (Let name q)
@@ -104,6 +104,7 @@ checked_over b env client command none = by env.heads command none
     by (Within setting) (Syz name) e = refl
     by (Within setting) (Member name vector) e = refl
     by (Within setting) (Lift name vector) e = refl
+    by (Within setting) (Resolve name steps) e = refl
     by (Within setting) Later e = refl
 
 -- a reply that one state gives the other gives too, and they go on to agree
@@ -219,6 +220,7 @@ refused_told (Ring modulus names) e fault = cc
 refused_told (Limit limit) e fault = cc
 refused_told (Module name degrees relations) e fault = cc
 refused_told (Map name source target matrix) e fault = cc
+refused_told (Complex name maps) e fault = cc
 refused_told (Let name query) e fault = cc
 refused_told (Ask query) e fault = tt
 refused_told (Show name) e fault = tt
@@ -226,6 +228,7 @@ refused_told (Basis name) e fault = tt
 refused_told (Syz name) e fault = tt
 refused_told (Member name vector) e fault = tt
 refused_told (Lift name vector) e fault = tt
+refused_told (Resolve name steps) e fault = tt
 refused_told Later e fault = tt
 
 lift_told : (m : Matrix) (v : Vector) → TellsAll (checks.Lift m v)
@@ -240,6 +243,7 @@ asked_told env client (Ring modulus names) c q e = cc
 asked_told env client (Limit limit) c q e = cc
 asked_told env client (Module name degrees relations) c q e = cc
 asked_told env client (Map name source target matrix) c q e = cc
+asked_told env client (Complex name maps) c q e = cc
 asked_told env client (Let name query) c q e = cc
 asked_told env client (Ask query) c q e =
     let u = both_ok (checked_query env client query) _ c e in
@@ -259,6 +263,9 @@ asked_told env client (Member name vector) c q e =
 asked_told env client (Lift name vector) c q e =
     let u = both_ok (checked_vector env client name vector.rows) _ c e in
     let same : checks.Lift u.0.0 u.0.1 ≡ c = cc in subst TellsAll same (lift_told u.0.0 u.0.1)
+asked_told env client (Resolve name steps) c q e =
+    let u = both_ok (checked_resolve env client name steps) _ c e in
+    let same : checks.Resolves u.0.0 u.0.1 ≡ c = cc in subst TellsAll same (λ a. tt)
 asked_told env client Later c q e = cc
 
 -- a query keeps the headings and the names

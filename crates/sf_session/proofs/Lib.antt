@@ -1,6 +1,7 @@
 pub mod SoFar
 pub mod TaskAnswers
 pub mod Settling
+pub mod ShelfSteps
 pub mod TaskSteps
 pub mod OneReply
 pub mod Placed
@@ -14,6 +15,7 @@ pub mod SessionSteps
 pub mod SessionRoom
 pub mod SessionComing
 pub mod Taken
+pub mod Refused
 pub mod Looked
 pub mod Findings
 pub mod OneOutput

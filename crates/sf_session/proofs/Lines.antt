@@ -9,7 +9,7 @@ use Rattle.sf_grammar.specs.FormValues.{Values, values, first_of, after}
 use Rattle.sf_grammar.specs.Words.{words, begins_with}
 use Rattle.sf_script.specs.Grammar.{Row, IsWritten, Silent, Malformed, Read, row_reading, reading, built, queries, later_words, later_queries, is_among, named_query, definition, command_of, is_silent, without_client, line_of}
 use Rattle.sf_script.specs.Kinds.{Value, word_value}
-use Rattle.sf_script.specs.declared.command.Command.TheVariants.{Spectral, Ring, Limit, Module, Map, Let, Ask, Show, Basis, Syz, Member, Lift, Later}
+use Rattle.sf_script.specs.declared.command.Command.TheVariants.{Spectral, Ring, Limit, Module, Map, Complex, Let, Ask, Show, Basis, Syz, Member, Lift, Resolve, Later}
 use Rattle.sf_script.specs.declared.command.Command.{Command}
 use Rattle.sf_script.specs.declared.command.Line.{Line}
 use Rattle.sf_script.specs.declared.command.Query.{Query}
@@ -21,6 +21,7 @@ HasVariables (Ring modulus names) = 1 ≤ length names
 HasVariables (Limit limit) = Unit {0}
 HasVariables (Module name degrees relations) = Unit {0}
 HasVariables (Map name source target matrix) = Unit {0}
+HasVariables (Complex name maps) = Unit {0}
 HasVariables (Let name query) = Unit {0}
 HasVariables (Ask query) = Unit {0}
 HasVariables (Show name) = Unit {0}
@@ -28,6 +29,7 @@ HasVariables (Basis name) = Unit {0}
 HasVariables (Syz name) = Unit {0}
 HasVariables (Member name vector) = Unit {0}
 HasVariables (Lift name vector) = Unit {0}
+HasVariables (Resolve name steps) = Unit {0}
 HasVariables Later = Unit {0}
 
 -- what is read by a row of a table is what the row makes of some values
@@ -70,7 +72,13 @@ built_have = (
                   λ v. tt,
                   (
                     λ v. tt,
-                    (λ v. tt, (λ v. tt, (λ v. tt, tt))),
+                    (
+                      λ v. tt,
+                      (
+                        λ v. tt,
+                        (λ v. tt, (λ v. tt, (λ v. tt, tt))),
+                      ),
+                    ),
                   ),
                 ),
               ),
@@ -136,6 +144,7 @@ variables_written (Ring modulus names) h = h
 variables_written (Limit limit) h = tt
 variables_written (Module name degrees relations) h = tt
 variables_written (Map name source target matrix) h = tt
+variables_written (Complex name maps) h = tt
 variables_written (Let name query) h = tt
 variables_written (Ask query) h = tt
 variables_written (Show name) h = tt
@@ -143,4 +152,5 @@ variables_written (Basis name) h = tt
 variables_written (Syz name) h = tt
 variables_written (Member name vector) h = tt
 variables_written (Lift name vector) h = tt
+variables_written (Resolve name steps) h = tt
 variables_written Later h = tt

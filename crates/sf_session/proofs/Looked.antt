@@ -4,6 +4,7 @@ use Rattle.sf_algebra.specs.Matrices.{Matrix}
 use Rattle.sf_matrix.specs.Runs.{Run}
 use Rattle.sf_matrix.specs.Tables.{Table, add_all, matrices_of}
 use Rattle.sf_matrix.specs.declared.basis.BaseFault.{BaseFault}
+use Rattle.sf_object.specs.Shelves.{GrewOver, Shelved}
 use Rattle.sf_script.specs.Headings.{noted}
 use Rattle.sf_script.specs.Names.{Env}
 use Rattle.sf_script.specs.declared.checked.Checked.TheVariants as checks
@@ -26,6 +27,7 @@ list_given env (checks.Enters ring) e h = cc
 list_given env (checks.Limits n) e h = cc
 list_given env (checks.Defines name m) e h = cc
 list_given env (checks.Maps name f) e h = (h.setting, h.within)
+list_given env (checks.Chains name c) e h = (h.setting, h.within)
 list_given env (checks.Lets name q) e h = (h.setting, h.within)
 list_given env (checks.Asks q) e h = (h.setting, h.within)
 list_given env (checks.Shows what) e h = cc
@@ -33,6 +35,7 @@ list_given env (checks.Basis m) e h = h
 list_given env (checks.Syz m) e h = h
 list_given env (checks.Member m v) e h = (h.setting, h.within)
 list_given env (checks.Lift m v) e h = (h.setting, h.within)
+list_given env (checks.Resolves m k) e h = h
 
 -- the ring is given
 abbrev IsWithinSome : Heads → Type 0
@@ -48,10 +51,11 @@ looks_noted (Within setting) ms h = λ e. cc
 
 -- when its matrices were looked at
 pub kept_looked : (c : Checked) (env : Env) (t u : Table) → IsSoundCheck env c → (result : Result Outcome BaseFault)
-    → Settles c t result u → IsKept env t → IsKept (begun (has_list c) env) u
-kept_looked c env t u check result h kept = by (has_list c) refl
+    → Settles c t result u → (old new : List Shelved) → GrewOver new u → IsKept env old t
+    → IsKept (begun (has_list c) env) new u
+kept_looked c env t u check result h old new grew kept = by (has_list c) refl
   where
-    by : (b : Bool) → has_list c ≡ b → IsKept (begun b env) u
+    by : (b : Bool) → has_list c ≡ b → IsKept (begun b env) new u
     by true e =
         let given = list_given env c e check in
         let within : IsWithinSome env.heads = subst IsWithinSome (sym given.1) tt in (
@@ -59,18 +63,19 @@ kept_looked c env t u check result h kept = by (has_list c) refl
           kept.1,
           h.met.grown.limit ∙ kept.2 ∙ sym (limit_noted env.heads),
           looks_noted env.heads (matrices_of u.entries) within,
+          grew,
         )
     by false e =
         let run = subst (λ n. Run n (plan_of c) h.met.looked h.end) kept.2 h.met.run in
         let none = unlooked [] c (record { env = env; looked = matrices_of t.entries }) t u kept.2 refl h.end h.met.looked run e in
         let same = h.met.grown.matrices ∙ ap (λ ks. add_all (matrices_of t.entries) ks) none in
-        (kept.0, kept.1, h.met.grown.limit ∙ kept.2, subst (LooksOnceNoted env.heads) (sym same) kept.3)
+        (kept.0, kept.1, h.met.grown.limit ∙ kept.2, subst (LooksOnceNoted env.heads) (sym same) kept.3, grew)
 
 -- what was found, and how
-pub finds : (c : Checked) (env : Env) (t u : Table) → IsKept env t → (result : Result Outcome BaseFault) → Settles c t result u
-    → (after : Env) → after ≡ begun (has_list c) env → (old : State) → record { env = env; looked = matrices_of t.entries } ≡ old
+pub finds : (c : Checked) (env : Env) (shelf : List Shelved) (t u : Table) → IsKept env shelf t
+    → (result : Result Outcome BaseFault) → Settles c t result u → (after : Env) → after ≡ begun (has_list c) env → (old : State) → record { env = env; looked = matrices_of t.entries } ≡ old
     → Finds c old result (record { env = after; looked = matrices_of u.entries })
-finds c env t u kept result h after e old view =
+finds c env shelf t u kept result h after e old view =
     subst (λ (s : State). Finds c s result (record { env = after; looked = matrices_of u.entries })) view (record {
       before = t;
       after = u;

@@ -143,6 +143,7 @@ step_sound old line text new sound = by (line_of line) refl
     refused_one (commands.Limit limit) fault client = sound
     refused_one (commands.Module name degrees relations) fault client = noted_sound old.env sound
     refused_one (commands.Map name source target matrix) fault client = noted_sound old.env sound
+    refused_one (commands.Complex name maps) fault client = noted_sound old.env sound
     refused_one (commands.Let name query) fault client = noted_sound old.env sound
     refused_one (commands.Ask query) fault client = noted_sound old.env sound
     refused_one (commands.Show name) fault client = noted_sound old.env sound
@@ -150,6 +151,7 @@ step_sound old line text new sound = by (line_of line) refl
     refused_one (commands.Syz name) fault client = noted_sound old.env sound
     refused_one (commands.Member name vector) fault client = noted_sound old.env sound
     refused_one (commands.Lift name vector) fault client = noted_sound old.env sound
+    refused_one (commands.Resolve name steps) fault client = noted_sound old.env sound
     refused_one commands.Later fault client = noted_sound old.env sound
 
     executed : (client : List ℕ) (c : Checked) → IsSoundCheck old.env c → Executed client c old text new → IsSound new.env

@@ -78,6 +78,8 @@ module _ (c : Checked) (old : State) (t u : Table) (limit : t.limit ≡ limit_of
           comes (checks.Defines name m) h small same a met = defined_low m h.module_in.generators h.own small
           comes (checks.Maps name f) h small same None met = tt
           comes (checks.Maps name f) h small same (Some k) met = tt
+          comes (checks.Chains name c) h small same None met = tt
+          comes (checks.Chains name c) h small same (Some k) met = tt
           comes (checks.Lets name q) h small same p met =
               let between = map_between (map_of q).source (map_of q).target (map_of q).matrix h.map_in.map in
               let degrees = (query_sound t.limit q met.looked p between met.run).degrees in
@@ -90,3 +92,4 @@ module _ (c : Checked) (old : State) (t u : Table) (limit : t.limit ≡ limit_of
           comes (checks.Member m v) h small same a met = tt
           comes (checks.Lift m v) h small same None met = tt
           comes (checks.Lift m v) h small same (Some row) met = tt
+          comes (checks.Resolves m k) h small same a met = tt

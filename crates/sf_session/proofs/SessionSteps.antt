@@ -62,6 +62,8 @@ noting (checks.Limits n) e a = cc
 noting (checks.Defines name m) e a = cc
 noting (checks.Maps name f) e None = tt
 noting (checks.Maps name f) e (Some k) = tt
+noting (checks.Chains name c) e None = tt
+noting (checks.Chains name c) e (Some k) = tt
 noting (checks.Lets name q) e a = tt
 noting (checks.Asks q) e a = tt
 noting (checks.Shows what) e a = cc
@@ -70,6 +72,7 @@ noting (checks.Syz m) e a = tt
 noting (checks.Member m v) e a = tt
 noting (checks.Lift m v) e None = tt
 noting (checks.Lift m v) e (Some c) = tt
+noting (checks.Resolves m k) e a = tt
 
 -- such an outcome leaves the same, whether or not the line was noted before
 pub after_noted : (client : List ℕ) (out : Outcome) (s : State) → IsNoting out
@@ -200,6 +203,7 @@ module _ (client : List ℕ) (c : Checked) (old : State) (t u : Table) (limit : 
       by (checks.Limits n) end looked run e = answered _ tt end looked run
       by (checks.Defines name m) end looked run e = answered _ tt end looked run
       by (checks.Maps name f) end looked run e = cc
+      by (checks.Chains name c) end looked run e = cc
       by (checks.Lets name q) end looked run e = cc
       by (checks.Asks q) end looked run e = cc
       by (checks.Shows what) end looked run e = answered _ tt end looked run
@@ -207,6 +211,7 @@ module _ (client : List ℕ) (c : Checked) (old : State) (t u : Table) (limit : 
       by (checks.Syz m) end looked run e = cc
       by (checks.Member m v) end looked run e = cc
       by (checks.Lift m v) end looked run e = cc
+      by (checks.Resolves m k) end looked run e = cc
 
   -- memory was wanting on the way, or for the text
   pub cut : (result : Result Outcome BaseFault) → Settles c t result u → (new : State) → new ≡ looking (has_list c) seen

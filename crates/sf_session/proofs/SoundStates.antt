@@ -54,6 +54,7 @@ check_ready env (checks.Enters ring) h = tt
 check_ready env (checks.Limits n) h = tt
 check_ready env (checks.Defines name m) h = tt
 check_ready env (checks.Maps name f) h = tt
+check_ready env (checks.Chains name c) h = tt
 check_ready env (checks.Lets name q) h =
     map_between (map_of q).source (map_of q).target (map_of q).matrix h.map_in.map
 check_ready env (checks.Asks q) h = map_between (map_of q).source (map_of q).target (map_of q).matrix h.map_in.map
@@ -62,6 +63,7 @@ check_ready env (checks.Basis m) h = tt
 check_ready env (checks.Syz m) h = tt
 check_ready env (checks.Member m v) h = tt
 check_ready env (checks.Lift m v) h = tt
+check_ready env (checks.Resolves m k) h = tt
 
 -- a line is noted
 pub noted_sound : (env : Env) → IsSound env → IsSound (with_other_heads (noted env.heads) env)
@@ -155,6 +157,10 @@ module _ (client : List ℕ) (old : State) (sound : IsSound old.env) where
       within_listed : (setting : Setting) → IsWithin old.env setting → IsTrue (is_modulus setting.ring.modulus)
       within_listed setting e = let names : HasNamesIn (Within setting) old.env.clients = rw e at sound.names in names.0
   outcome_sound (checks.Maps name f) h limit looked (Some relation) run ms = noted_sound old.env sound
+  outcome_sound (checks.Chains name c) h limit looked None run ms =
+      noted_sound (with_name client name (names.Chain c) old.env)
+      (defined_name old.env sound client name (names.Chain c) h.setting h.within h.chain_in)
+  outcome_sound (checks.Chains name c) h limit looked (Some place) run ms = noted_sound old.env sound
   outcome_sound (checks.Lets name q) h limit looked p run ms =
       let between = map_between (map_of q).source (map_of q).target (map_of q).matrix h.map_in.map in
       noted_sound (with_name client name (names.Module p.rels) old.env)
@@ -167,3 +173,4 @@ module _ (client : List ℕ) (old : State) (sound : IsSound old.env) where
   outcome_sound (checks.Member m v) h limit looked a run ms = noted_sound old.env sound
   outcome_sound (checks.Lift m v) h limit looked None run ms = noted_sound old.env sound
   outcome_sound (checks.Lift m v) h limit looked (Some c) run ms = noted_sound old.env sound
+  outcome_sound (checks.Resolves m k) h limit looked a run ms = noted_sound old.env sound

@@ -19,9 +19,11 @@ use Rattle.sf_matrix.proofs.Zeros.{is_zero-tests}
 use Rattle.sf_genmor.specs.declared.presentation.Presentation.{Presentation}
 use Rattle.sf_genmor.proofs.LookAnswers.{basis_is, basis_look, syzygies_is, syzygies_look, unique_basis, unique_syzygies}
 use Rattle.sf_object.specs.Faults.{IsBetween}
+use Rattle.sf_object.proofs.ComplexFailures.{answers_first_failure}
 use Rattle.sf_object.proofs.MapFaults.{answers_first_fault}
 use Rattle.sf_module.proofs.ModuleAnswers.{kernel_answered, image_answered, cokernel_answered}
-use Rattle.sf_script.specs.declared.checked.Checked.TheVariants.{Opens, Enters, Limits, Defines, Maps, Lets, Asks, Shows, Basis, Syz, Member, Lift}
+use Rattle.sf_resolve.proofs.StepAnswers.{answers_resolution}
+use Rattle.sf_script.specs.declared.checked.Checked.TheVariants.{Opens, Enters, Limits, Defines, Maps, Chains, Lets, Asks, Shows, Basis, Syz, Member, Lift, Resolves}
 use Rattle.sf_script.specs.declared.checked.Checked.{Checked}
 use Rattle.sf_script.specs.declared.checked.CheckedQuery.TheVariants.{Kernel, Image, Coker}
 use Rattle.sf_script.specs.declared.checked.CheckedQuery.{CheckedQuery}
@@ -69,6 +71,7 @@ IsReady (Enters ring) = Unit {0}
 IsReady (Limits limit) = Unit {0}
 IsReady (Defines name m) = Unit {0}
 IsReady (Maps name f) = Unit {0}
+IsReady (Chains name c) = Unit {0}
 IsReady (Lets name q) = IsBetween (map_of q)
 IsReady (Asks q) = IsBetween (map_of q)
 IsReady (Shows what) = Unit {0}
@@ -76,6 +79,7 @@ IsReady (Basis m) = Unit {0}
 IsReady (Syz m) = Unit {0}
 IsReady (Member m v) = Unit {0}
 IsReady (Lift m v) = Unit {0}
+IsReady (Resolves m k) = Unit {0}
 
 query_fixed : (limit : ℕ) (q : CheckedQuery) → IsBetween (map_of q) → (looked : List Matrix) (p : Presentation)
     → Run limit (query_plan q) looked (Ok p) → IsOf q p × ((other : Presentation) → IsOf q other → other ≡ p)
@@ -95,6 +99,7 @@ task_fixed limit (Enters ring) ready looked a run = (tt, λ b k. nothing_else a 
 task_fixed limit (Limits n) ready looked a run = (tt, λ b k. nothing_else a b)
 task_fixed limit (Defines name m) ready looked a run = (tt, λ b k. nothing_else a b)
 task_fixed limit (Maps name f) ready looked a run = answers_first_fault limit f looked a run
+task_fixed limit (Chains name c) ready looked a run = answers_first_failure limit c looked a run
 task_fixed limit (Lets name q) ready looked a run = query_fixed limit q ready looked a run
 task_fixed limit (Asks q) ready looked a run = query_fixed limit q ready looked a run
 task_fixed limit (Shows what) ready looked a run = (tt, λ b k. nothing_else a b)
@@ -125,6 +130,7 @@ task_fixed limit (Lift m v) ready looked a run =
     (unique_lift m positive v)
     (lift_inside m v)
     (is_zero left.0.0) (is_zero-tests left.0.0.terms))
+task_fixed limit (Resolves m k) ready looked a run = answers_resolution limit m k looked a run
 
 -- the coefficients with which the plan of a lift ends are a vector over the rows' degrees
 pub lift_coefficients : (t u : Table) (m : Matrix) (v : Vector) (o : Option Vector) (c : Vector) → o ≡ Some c

@@ -1,7 +1,7 @@
 -- States with the same accepted headings and the same names, and lines that change neither.
 use Rattle.std.specs.Prelude.{◌≡◌, Bool, true, false}
 use Rattle.sf_script.specs.Grammar.{Reading, Silent, Malformed, Read}
-use Rattle.sf_script.specs.declared.command.Command.TheVariants.{Spectral, Ring, Limit, Module, Map, Let, Ask, Show, Basis, Syz, Member, Lift, Later}
+use Rattle.sf_script.specs.declared.command.Command.TheVariants.{Spectral, Ring, Limit, Module, Map, Complex, Let, Ask, Show, Basis, Syz, Member, Lift, Resolve, Later}
 use Rattle.sf_script.specs.declared.command.Command.{Command}
 use Rattle.sf_script.specs.declared.heads.Heads.TheVariants.{Unopened, Opened, Within}
 use Rattle.sf_script.specs.declared.heads.Heads.{Heads}
@@ -25,6 +25,7 @@ gives_limit_command (Ring modulus names) = false
 gives_limit_command (Limit limit) = true
 gives_limit_command (Module name degrees relations) = false
 gives_limit_command (Map name source target matrix) = false
+gives_limit_command (Complex name maps) = false
 gives_limit_command (Let name query) = false
 gives_limit_command (Ask query) = false
 gives_limit_command (Show name) = false
@@ -32,6 +33,7 @@ gives_limit_command (Basis name) = false
 gives_limit_command (Syz name) = false
 gives_limit_command (Member name vector) = false
 gives_limit_command (Lift name vector) = false
+gives_limit_command (Resolve name steps) = false
 gives_limit_command Later = false
 
 abbrev pub gives_limit : Reading → Bool
@@ -46,6 +48,7 @@ is_query_command (Ring modulus names) = false
 is_query_command (Limit limit) = false
 is_query_command (Module name degrees relations) = false
 is_query_command (Map name source target matrix) = false
+is_query_command (Complex name maps) = false
 is_query_command (Let name query) = false
 is_query_command (Ask query) = true
 is_query_command (Show name) = true
@@ -53,6 +56,7 @@ is_query_command (Basis name) = true
 is_query_command (Syz name) = true
 is_query_command (Member name vector) = true
 is_query_command (Lift name vector) = true
+is_query_command (Resolve name steps) = true
 is_query_command Later = true
 
 abbrev pub is_query : Reading → Bool

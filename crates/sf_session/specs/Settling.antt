@@ -1,12 +1,14 @@
 -- What a call over a table settles of a line. (This project's own.)
 use Rattle.std.specs.Prelude.{◌≡◌, ◌≤◌, [], Result, Ok, Err, ◌≤ℤ◌}
+use Rattle.std.specs.List.{AllByRecursion}
 use Rattle.sf_matrix.specs.Meets.{Meets}
 use Rattle.sf_matrix.specs.Tables.{Table, GREATEST_REDUCED_DEGREE, matrices_of}
 use Rattle.sf_matrix.specs.declared.basis.BaseFault.{BaseFault}
 use Rattle.sf_algebra.specs.Vectors.{IsVector}
 use Rattle.sf_module.specs.ModulePlans.{IsWellDefined}
+use Rattle.sf_object.specs.Complexes.{HasSquareRoom, IsChain, junctions}
 use Rattle.sf_object.specs.Faults.{HasImageRoom, IsBetween}
-use Rattle.sf_script.specs.declared.checked.Checked.TheVariants.{Opens, Enters, Limits, Defines, Maps, Lets, Asks, Shows, Basis, Syz, Member, Lift}
+use Rattle.sf_script.specs.declared.checked.Checked.TheVariants.{Opens, Enters, Limits, Defines, Maps, Chains, Lets, Asks, Shows, Basis, Syz, Member, Lift, Resolves}
 use Rattle.sf_script.specs.declared.checked.Checked.{Checked}
 use Rattle.sf_session.specs.Outcomes.{outcome}
 use Rattle.sf_script.specs.Headings.{DEFAULT_LIMIT, limited}
@@ -38,6 +40,7 @@ HasCallRoom (Enters ring) = Unit {0}
 HasCallRoom (Limits limit) = Unit {0}
 HasCallRoom (Defines name m) = Unit {0}
 HasCallRoom (Maps name f) = IsBetween f × HasImageRoom f
+HasCallRoom (Chains name c) = IsChain c × AllByRecursion HasSquareRoom (junctions c.maps)
 HasCallRoom (Lets name q) = IsWellDefined (map_of q)
 HasCallRoom (Asks q) = IsWellDefined (map_of q)
 HasCallRoom (Shows what) = Unit {0}
@@ -45,6 +48,7 @@ HasCallRoom (Basis m) = Unit {0}
 HasCallRoom (Syz m) = Unit {0}
 HasCallRoom (Member m v) = IsVector m.ring m.target v × (v.degree ≤ℤ GREATEST_REDUCED_DEGREE)
 HasCallRoom (Lift m v) = IsVector m.ring m.target v × (v.degree ≤ℤ GREATEST_REDUCED_DEGREE)
+HasCallRoom (Resolves m k) = Unit {0}
 
 -- what else has to hold of what comes of a line: as long as headings are given nothing was looked at
 abbrev pub MayCome : Outcome → State → Type 0
@@ -63,6 +67,7 @@ HasLowSource (Enters ring) = Unit {0}
 HasLowSource (Limits limit) = Unit {0}
 HasLowSource (Defines name m) = Unit {0}
 HasLowSource (Maps name f) = HasLowRelations (Module f.source)
+HasLowSource (Chains name c) = Unit {0}
 HasLowSource (Lets name q) = Unit {0}
 HasLowSource (Asks q) = Unit {0}
 HasLowSource (Shows what) = Unit {0}
@@ -70,6 +75,7 @@ HasLowSource (Basis m) = Unit {0}
 HasLowSource (Syz m) = Unit {0}
 HasLowSource (Member m v) = Unit {0}
 HasLowSource (Lift m v) = Unit {0}
+HasLowSource (Resolves m k) = Unit {0}
 
 -- what comes of a line was found through the session's table, and of the rest of the state only this changed, that a line with a
 -- working list is noted

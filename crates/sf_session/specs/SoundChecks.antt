@@ -5,6 +5,7 @@ use Rattle.sf_algebra.specs.Matrices.{Matrix, IsMatrix}
 use Rattle.sf_algebra.specs.Rings.{ones}
 use Rattle.sf_algebra.specs.Vectors.{Vector, IsVector, row_degree}
 use Rattle.sf_field.specs.Moduli.{is_modulus}
+use Rattle.sf_object.specs.declared.complex.Complex as complexes
 use Rattle.sf_object.specs.declared.map.Map as maps
 use Rattle.sf_object.specs.Faults.{IsBetween}
 use Rattle.sf_text.specs.declared.ring.Ring as rings
@@ -14,7 +15,7 @@ use Rattle.sf_script.specs.declared.checked.Checked.{Checked}
 use Rattle.sf_script.specs.declared.checked.CheckedQuery.{CheckedQuery}
 use Rattle.sf_script.specs.declared.heads.Heads.TheVariants.{Unopened, Opened, Within}
 use Rattle.sf_script.specs.declared.heads.Setting.{Setting}
-use Rattle.sf_session.specs.Sound.{IsModuleIn, IsMapIn}
+use Rattle.sf_session.specs.Sound.{IsModuleIn, IsMapIn, IsChainIn}
 use Rattle.sf_session.specs.Tasks.{map_of}
 
 -- the ring is given, with this setting
@@ -44,6 +45,12 @@ pub record IsMatrixIn (env : Env) (f : maps.Map) : Type 0 where
   pub target : IsModuleIn setting.ring f.target
   pub between : IsBetween f
   pub matrix : IsMatrix f.matrix
+
+-- maps in a ring that meet
+pub record IsChained (env : Env) (c : complexes.Complex) : Type 0 where
+  pub setting : Setting
+  pub within : IsWithin env setting
+  pub chain_in : IsChainIn setting.ring c
 
 -- a map in a ring
 pub record IsAsked (env : Env) (q : CheckedQuery) : Type 0 where
@@ -80,6 +87,7 @@ IsSoundCheck env (checks.Enters ring) = IsRing env ring
 IsSoundCheck env (checks.Limits n) = IsLimited env n
 IsSoundCheck env (checks.Defines name m) = IsDefined env m
 IsSoundCheck env (checks.Maps name f) = IsMatrixIn env f
+IsSoundCheck env (checks.Chains name c) = IsChained env c
 IsSoundCheck env (checks.Lets name q) = IsAsked env q
 IsSoundCheck env (checks.Asks q) = IsAsked env q
 IsSoundCheck env (checks.Shows what) = IsGiven env
@@ -87,3 +95,4 @@ IsSoundCheck env (checks.Basis m) = IsGiven env
 IsSoundCheck env (checks.Syz m) = IsGiven env
 IsSoundCheck env (checks.Member m v) = IsVectorOf env m v
 IsSoundCheck env (checks.Lift m v) = IsVectorOf env m v
+IsSoundCheck env (checks.Resolves m k) = IsGiven env

@@ -22,6 +22,7 @@ use sf_field::OutOfMemory;
 use sf_matrix::{BaseFault, Name};
 use sf_pairs::Strategy;
 use sf_reply::{Reply, fault_text, reply_text};
+use sf_resolve::Shelf;
 use sf_script::{Checked, Command, Env, Heads, Line, LineFault, Named, check_line, read_line};
 use sf_store::Store;
 use sf_text::ReadText;
@@ -36,12 +37,14 @@ const DEFAULT_LIMIT: u32 = 40;
 pub struct Session {
     alloc: Global,
     env: Env,
+    shelf: Shelf,
     store: Store,
 }
 
 impl Model for Session {
     ghost use Rattle.std.specs.Prelude.{◌≡◌};
     ghost use Rattle.sf_matrix.specs.Tables.{matrices_of};
+    ghost use Rattle.sf_object.specs.Shelves.{GrewOver};
     ghost use Rattle.sf_session.specs.Sound.{IsSound, HasLowNames};
     ghost use Rattle.sf_session.specs.State.{State, LooksOnceNoted, limit_of};
 
@@ -50,7 +53,7 @@ impl Model for Session {
     ghost view = { λ s. record { env = s.env; looked = matrices_of s.store.entries } };
 
     ghost invariant = { λ s. IsSound s.env × HasLowNames s.env.clients × (s.store.limit ≡ limit_of s.env.heads)
-        × LooksOnceNoted s.env.heads (matrices_of s.store.entries) };
+        × LooksOnceNoted s.env.heads (matrices_of s.store.entries) × GrewOver s.shelf s.store };
 }
 
 impl Session {
@@ -61,6 +64,7 @@ impl Session {
         Session {
             alloc,
             env: Env::new(alloc),
+            shelf: Shelf::new(alloc),
             store: Store::new(alloc, DEFAULT_LIMIT, strategy),
         }
     }
@@ -120,7 +124,7 @@ impl Session {
         ensures early { IfOk result (λ outcome. MayCome outcome self.new) }
     {
         begin(&mut self.env, has_list(&checked));
-        outcome_of(self.alloc, checked, &mut self.store)
+        outcome_of(self.alloc, checked, &mut self.shelf, &mut self.store)
     }
 
     /// Refuses a line.
@@ -161,6 +165,7 @@ impl Session {
             Outcome::Limits(limit) => {
                 self.env.set_limit(limit);
                 self.store.set_limit(limit);
+                self.shelf = Shelf::new(self.alloc);
             }
             Outcome::Defines(name, what) => define(&mut self.env, self.alloc, &client, name, what)?,
             Outcome::Bars(_fault) => {}

@@ -10,9 +10,11 @@ use std::cell::Cell;
 use std::rc::Rc;
 use std::test::Fail;
 
-const FIRST: &[u8] = b"spectral 1\nring 101 x y\nmodule K degrees 0 relations [x;y]\nshow K\n";
+const FIRST: &[u8] =
+    b"spectral 1\nring 101 x y\nmodule K degrees 0 relations [x;y]\nmodule R degrees 0 relations []\nresolve K 3\n";
 
-const FIRST_REPLIES: &[u8] = b"ok\nok\nok\ndegrees (0)\nrels (1,1)->(0) [x;y]\n";
+const FIRST_REPLIES: &[u8] =
+    b"ok\nok\nok\nok\nd1 (1,1)->(0) [x;y]\nd2 (2)->(1,1) [y,100*x]\nd3 ()->(2) []\n";
 
 /// What a run over this script writes, and how it ends. Each end moves at most `piece` bytes in a call; the
 /// lists have the numbers of the pulls and of the pushes that fail.
@@ -63,7 +65,7 @@ fn answers_scripts(rt: HostRuntime) -> Result<(), Fail> {
         ),
         (b"\n  \n# note\n\r\n#\xff\0", b""),
         (
-            b"@\nresolve K 1\nbasis K\nlimit 1\nlimit x\nshow K\n",
+            b"@\nhom K K\nbasis K\nlimit 1\nlimit x\nshow K\n",
             b"error later\nerror later\nerror ring\nerror ring\nerror syntax 7\nerror ring\n",
         ),
         (
@@ -166,6 +168,53 @@ fn answers_by_maps(rt: HostRuntime) -> Result<(), Fail> {
         (
             b"spectral 1\nring 2 a\nmodule F degrees 1 0 relations []\nmodule Z degrees relations []\nmap z Z F []\nmap y F Z []\nkernel y\nlet C = coker z\nshow C\n",
             b"ok\nok\nok\nok\nok\nok\ngens (0,1)->(1,0) [0,1;1,0]\nrels ()->(0,1) []\nok\ndegrees (0,1)\nrels ()->(0,1) []\n",
+        ),
+    ];
+    for (script, wanted) in cases {
+        let (status, sink) = answered(rt.alloc(), &["run"], script)?;
+        assert_eq!(rt; status, Status::Done);
+        assert_eq!(rt; sink.bytes(), wanted);
+    }
+    Ok(())
+}
+
+const RESOLUTIONS: &[u8] =
+    b"spectral 1\nring 101 x y\nmodule K degrees 0 relations [x;y]\nmodule R degrees 0 relations []\nmodule Z degrees relations []\nshow K\nresolve Z 2\nmodule K degrees 0 relations []\nresolve K 1\nresolve K 3\nresolve K 0\nresolve K 17\nmodule A degrees 2001 relations []\nmodule A degrees 2000 relations []\nresolve L 1\nresolve K 16\n";
+
+const RESOLUTIONS_REPLIES: &[u8] =
+    b"ok\nok\nok\nok\nok\ndegrees (0)\nrels (1,1)->(0) [x;y]\nd1 ()->() []\nd2 ()->() []\nerror taken K\nd1 (1,1)->(0) [x;y]\nd1 (1,1)->(0) [x;y]\nd2 (2)->(1,1) [y,100*x]\nd3 ()->(2) []\nerror range\nerror range\nerror range\nok\nerror name L\nd1 (1,1)->(0) [x;y]\nd2 (2)->(1,1) [y,100*x]\nd3 ()->(2) []\nd4 ()->() []\nd5 ()->() []\nd6 ()->() []\nd7 ()->() []\nd8 ()->() []\nd9 ()->() []\nd10 ()->() []\nd11 ()->() []\nd12 ()->() []\nd13 ()->() []\nd14 ()->() []\nd15 ()->() []\nd16 ()->() []\n";
+
+#[test]
+fn answers_by_resolutions(rt: HostRuntime) -> Result<(), Fail> {
+    let cases: [(&[u8], &[u8]); 3] = [
+        (RESOLUTIONS, RESOLUTIONS_REPLIES),
+        (
+            b"spectral 1\nring 101 x y z\nmodule K degrees 0 relations [x;y;z]\nresolve K 4\n",
+            b"ok\nok\nok\nd1 (1,1,1)->(0) [x;y;z]\nd2 (2,2,2)->(1,1,1) [y,100*x,0;z,0,100*x;0,z,100*y]\nd3 (3)->(2,2,2) [z,100*y,x]\nd4 ()->(3) []\n",
+        ),
+        (
+            b"spectral 1\nring 101 x y\nlimit 2\nmodule N degrees 0 relations [x^2;x*y+y^2]\nresolve N 1\nmodule P degrees 0 relations [x*y;x^2]\nresolve P 1\nresolve P 2\n",
+            b"ok\nok\nok\nok\nerror large 2 1\nok\nd1 (2,2)->(0) [x*y;x^2]\nd1 (2,2)->(0) [x*y;x^2]\nd2 (3)->(2,2) [x,100*y]\n",
+        ),
+    ];
+    for (script, wanted) in cases {
+        let (status, sink) = answered(rt.alloc(), &["run"], script)?;
+        assert_eq!(rt; status, Status::Done);
+        assert_eq!(rt; sink.bytes(), wanted);
+    }
+    Ok(())
+}
+
+#[test]
+fn answers_by_complexes(rt: HostRuntime) -> Result<(), Fail> {
+    let cases: [(&[u8], &[u8]); 2] = [
+        (
+            b"spectral 1\nring 101 x y\nmodule K degrees 0 relations [x;y]\nmodule R degrees 0 relations []\nmodule A degrees 1 relations []\nmodule B degrees 2 relations []\nmap f A R [x]\nmap g B A [x]\ncomplex C maps f g\ncomplex C maps g f\nshow C\ncomplex C maps f\nshow C\nbasis C\ncomplex D maps C\ncomplex C maps f\ncomplex D maps f K h\n",
+            b"ok\nok\nok\nok\nok\nok\nok\nok\nerror square 1 0\nerror shape\nerror name C\nok\nd1 (1)->(0) [x]\nerror kind C\nerror kind C\nerror taken C\nerror name h\n",
+        ),
+        (
+            b"spectral 1\nring 101 x y\nmodule R degrees 0 relations []\nmodule A degrees 1 1 relations []\nmodule B degrees 2 relations []\nmap f A R [x;y]\nmap g B A [y,-x]\ncomplex C maps f g\nshow C\nmodule Z degrees relations []\nmap h Z B []\ncomplex D maps f g h\nshow D\n",
+            b"ok\nok\nok\nok\nok\nok\nok\nok\nd1 (1,1)->(0) [x;y]\nd2 (2)->(1,1) [y,100*x]\nok\nok\nok\nd1 (1,1)->(0) [x;y]\nd2 (2)->(1,1) [y,100*x]\nd3 ()->(2) []\n",
         ),
     ];
     for (script, wanted) in cases {

@@ -40,7 +40,7 @@ pub fn module_named(alloc: Global, env: &Env, client: &Name, name: &Name) -> Res
 }
 
 /// The map that a name stands for, in a ring.
-fn map_named(alloc: Global, env: &Env, client: &Name, name: &Name) -> Result<Map, Stop>
+pub fn map_named(alloc: Global, env: &Env, client: &Name, name: &Name) -> Result<Map, Stop>
     requires few { HasFewVariables env.now.heads }
     requires degrees { HasWrittenModules env.now }
     ensures passed { IfOk result (λ m. map_named env.now client.now name.now ≡ Ok m) }

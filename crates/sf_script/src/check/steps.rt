@@ -81,7 +81,7 @@ pub fn as_module<'a>(alloc: Global, name: &Name, found: &'a Named) -> Result<&'a
 {
     match found {
         Named::Module(module) => Ok(module),
-        Named::Mapping(_) => Err(Stop::Refused(LineFault::Kind {
+        Named::Mapping(_) | Named::Chain(_) => Err(Stop::Refused(LineFault::Kind {
             name: name.copy(alloc)?,
         })),
     }
@@ -94,7 +94,7 @@ pub fn as_map<'a>(alloc: Global, name: &Name, found: &'a Named) -> Result<&'a Ma
 {
     match found {
         Named::Mapping(map) => Ok(map),
-        Named::Module(_) => Err(Stop::Refused(LineFault::Kind {
+        Named::Module(_) | Named::Chain(_) => Err(Stop::Refused(LineFault::Kind {
             name: name.copy(alloc)?,
         })),
     }

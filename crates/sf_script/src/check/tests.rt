@@ -12,7 +12,7 @@ use std::alloc::Global;
 use std::test::Fail;
 
 /// What each line asks for, or the first reason to refuse it, told by hand from the definition.
-const LINES: [(&[u8], &str); 28] = [
+const LINES: [(&[u8], &str); 31] = [
     (b"spectral 1", "Ring"),
     (b"ring 101 x", "Ring"),
     (b"limit 61", "Range"),
@@ -30,6 +30,8 @@ const LINES: [(&[u8], &str); 28] = [
     (b"map f K K [x,x]", "Shape"),
     (b"map f K K [x]", "Degree"),
     (b"map f K K [3]", "maps"),
+    (b"complex K maps K L", "Unknown"),
+    (b"complex K maps K", "Kind"),
     (b"kernel K", "Kind"),
     (b"let K = kernel K", "Kind"),
     (b"show L", "Unknown"),
@@ -40,7 +42,8 @@ const LINES: [(&[u8], &str); 28] = [
     (b"member K [x]", "member"),
     (b"lift K [x+1]", "Degree"),
     (b"lift K [x]", "lift"),
-    (b"resolve K 3", "Later"),
+    (b"resolve K 3", "resolves"),
+    (b"resolve K 17", "Range"),
 ];
 
 fn told(answer: &Result<Checked, LineFault>) -> &'static str {
@@ -57,6 +60,7 @@ fn asked(checked: &Checked) -> &'static str {
         Checked::Limits(_) => "limits",
         Checked::Defines(_, _) => "defines",
         Checked::Maps(_, _) => "maps",
+        Checked::Chains(_, _) => "chains",
         Checked::Lets(_, _) => "lets",
         Checked::Asks(_) => "asks",
         Checked::Shows(_) => "shows",
@@ -64,6 +68,7 @@ fn asked(checked: &Checked) -> &'static str {
         Checked::Syz(_) => "syz",
         Checked::Member(_, _) => "member",
         Checked::Lift(_, _) => "lift",
+        Checked::Resolves(_, _) => "resolves",
     }
 }
 
@@ -78,6 +83,7 @@ fn reason(fault: &LineFault) -> &'static str {
         LineFault::Shape => "Shape",
         LineFault::Degree { .. } => "Degree",
         LineFault::NotMap { .. } => "NotMap",
+        LineFault::NotComplex { .. } => "NotComplex",
         LineFault::Range => "Range",
         LineFault::NotInSpan => "NotInSpan",
         LineFault::Large { .. } => "Large",

@@ -12,7 +12,10 @@ use Rattle.sf_session.proofs.session.Session.found.Goals as goal
 
 pub outcome_of-requires : goal.outcome_of-requires
 outcome_of-requires g c =
-    record { room = call_room c.args.self.now.env c.args.checked c.requires.sound c.requires.small c.requires.low }
+    record {
+      room = call_room c.args.self.now.env c.args.checked c.requires.sound c.requires.small c.requires.low;
+      grew = c.self.invariant.4;
+    }
 
 pub invariant_of-self : goal.invariant_of-self
 invariant_of-self g c =
@@ -20,16 +23,17 @@ invariant_of-self g c =
     let check = subst (λ (e : Env). IsSoundCheck e c.args.checked) (sym (ap (λ (s : State). s.env) c.self.view_is)) c.requires.sound in
     let began : c.begin.new.env ≡ begun (has_list c.args.checked) env =
     c.begin.ensures ∙ ap (λ b. begun b env) c.has_list.ensures in
-    subst (λ (e : Env). IsKept e c.outcome_of.new.bases) (sym began)
-    (kept_looked c.args.checked env c.self.inside.store c.outcome_of.new.bases check c.outcome_of.result c.outcome_of.ensures
-    c.self.invariant)
+    subst (λ (e : Env). IsKept e c.outcome_of.new.shelf c.outcome_of.new.bases) (sym began)
+    (kept_looked c.args.checked env c.self.inside.store c.outcome_of.new.bases check c.outcome_of.result c.outcome_of.ensures.settles
+    c.self.inside.shelf c.outcome_of.new.shelf c.outcome_of.ensures.grew c.self.invariant)
 
 pub returns-clause-found : goal.returns-clause-found
 returns-clause-found g c =
     let env = c.self.inside.env in
     let began : c.begin.new.env ≡ begun (has_list c.args.checked) env =
     c.begin.ensures ∙ ap (λ b. begun b env) c.has_list.ensures in
-    finds c.args.checked env c.self.inside.store c.outcome_of.new.bases c.self.invariant c.outcome_of.result c.outcome_of.ensures
+    finds c.args.checked env c.self.inside.shelf c.self.inside.store c.outcome_of.new.bases c.self.invariant c.outcome_of.result
+    c.outcome_of.ensures.settles
     c.begin.new.env began c.args.self.now c.self.view_is
 
 pub returns-clause-sound : goal.returns-clause-sound
