@@ -19,3 +19,5 @@ pub mod Entering
 pub mod MonicMultiples
 pub mod Dividing
 pub mod FreeNumbers
+pub mod Reducing
+pub mod SpaceSteps

@@ -45,7 +45,7 @@ IsApart-at (v ∷ vs) h i zero earlier later = absurd (omega arith)
 IsApart-at (v ∷ vs) h zero (suc j) earlier later = AllByRecursion-vector_at (AreApart v) vs h.0 j (omega arith)
 IsApart-at (v ∷ vs) h (suc i) (suc j) earlier later = IsApart-at vs h.1 i j (omega arith) (omega arith)
 
-positive_number : (m : ℕ) → (m ≡ 0 → ⊥) → 0 < m
+pub positive_number : (m : ℕ) → (m ≡ 0 → ⊥) → 0 < m
 positive_number zero h = absurd (h refl)
 positive_number (suc m) h = omega arith
 

@@ -72,7 +72,7 @@ fn raised(degree: i32, lead: Mono, multiple: Mono) -> i64
 }
 
 /// The lead of row `i`, which is monic.
-fn lead_of(m: &Matrix, i: usize) -> &Term
+pub(crate) fn lead_of(m: &Matrix, i: usize) -> &Term
     requires within { i < length m.now.rows }
     requires monic { AllByRecursion (λ (v : Vector). IsMonic v.terms) m.now.rows }
     ensures lead { result.now.at ≡ lead_at m.now.rows i }

@@ -6,6 +6,9 @@ mod degrees;
 mod facts;
 mod minimal;
 mod pivots;
+mod quotients;
+mod sizes;
+mod spaces;
 mod steps;
 
 pub use minimal::minimal_of;

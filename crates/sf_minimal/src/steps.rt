@@ -1,22 +1,22 @@
-ghost use Rattle.std.specs.Prelude.{◌≡◌, ◌<◌, length, pos, IfOk, OnOk};
-ghost use Rattle.sf_algebra.specs.Rings.{ones, plain};
-ghost use Rattle.sf_algebra.specs.Terms.{IsCanonical};
-ghost use Rattle.sf_algebra.specs.Vectors.{place_cmp};
+ghost use Rattle.std.specs.Prelude.{◌≡◌, ◌<◌, length, IfOk, OnOk};
+ghost use Rattle.std.specs.List.{AllByRecursion};
 ghost use Rattle.sf_groebner.specs.Spans.{InSpan};
 ghost use Rattle.sf_groebner.proofs.Constructions.LeadDivisors.{lead_places};
-ghost use Rattle.sf_reduce.specs.TermSums.{sum_vector};
 ghost use Rattle.sf_matrix.specs.KeptNumbers.{SpansInto};
 ghost use Rattle.sf_minimal.specs.Numbers.{DecideRows};
 ghost use Rattle.sf_minimal.specs.Pivots.{ArePivots};
+ghost use Rattle.sf_minimal.specs.Spaces.{IsSpace};
 ghost use Rattle.sf_minimal.specs.Steps.{HasRowOfDegree, IsLowBasis, IsPairStep, IsRowStep, IsStep};
 
 use crate::constants::constants_of;
 use crate::degrees::{has_free_row, is_passed_over, pair_degree};
 use crate::facts::matrix_facts;
 use crate::pivots::{enter_constants, no_pivots};
-use sf_field::{Modulus, OutOfMemory};
+use crate::quotients::quotients_of;
+use crate::spaces::Space;
+use sf_field::OutOfMemory;
 use sf_matrix::{Matrix, Vector};
-use sf_reduce::{Leads, Sum, rest_of, s_sum};
+use sf_reduce::{Leads, s_sum};
 use std::alloc::Global;
 
 /// Divides a vector of the span by the rows, and enters the constant terms of the quotients.
@@ -24,24 +24,26 @@ fn enter(
     alloc: Global,
     cands: &Matrix,
     leads: &Leads,
-    sum: Sum,
+    spaces: &mut Vec<Space>,
+    v: &Vector,
     pivots: &mut Matrix,
     taken: &mut Leads,
 ) -> Result<(), OutOfMemory>
     requires basis { IsLowBasis cands.now }
     requires leads { leads.now ≡ lead_places cands.now.rows }
-    requires ring { cands.now.ring ≡ plain sum.modulus }
-    requires inside { InSpan cands.now (sum_vector sum) }
-    requires degree { HasRowOfDegree cands.now sum.degree }
+    requires spaces { AllByRecursion (IsSpace cands.now) spaces.old.items }
+    requires inside { InSpan cands.now v.now }
+    requires degree { HasRowOfDegree cands.now v.now.degree }
     requires pivots { ArePivots pivots.old }
     requires taken { taken.old ≡ lead_places pivots.old.rows }
     requires pivots_ring { pivots.old.ring ≡ cands.now.ring }
     requires columns { length pivots.old.target ≡ length cands.now.rows }
-    ensures step { OnOk result (IsStep cands.now pivots.old pivots.new sum.degree sum.terms) }
+    ensures step { OnOk result (IsStep cands.now pivots.old pivots.new v.now.degree v.now.terms) }
     ensures taken { OnOk result (taken.new ≡ lead_places pivots.new.rows) }
+    ensures spaces { OnOk result (AllByRecursion (IsSpace cands.now) spaces.new.items) }
 {
     matrix_facts(cands);
-    let (_rest, quotients) = rest_of(alloc, sum, cands, leads)?;
+    let quotients = quotients_of(alloc, cands, leads, spaces, v)?;
     let constants = constants_of(alloc, cands.modulus(), cands.rows(), &quotients)?;
     enter_constants(alloc, pivots, taken, &constants)?;
     Ok(())
@@ -53,12 +55,14 @@ fn enter_row(
     alloc: Global,
     cands: &Matrix,
     leads: &Leads,
+    spaces: &mut Vec<Space>,
     row: &Vector,
     pivots: &mut Matrix,
     taken: &mut Leads,
 ) -> Result<(), OutOfMemory>
     requires basis { IsLowBasis cands.now }
     requires leads { leads.now ≡ lead_places cands.now.rows }
+    requires spaces { AllByRecursion (IsSpace cands.now) spaces.old.items }
     requires inside { InSpan cands.now row.now }
     requires pivots { ArePivots pivots.old }
     requires taken { taken.old ≡ lead_places pivots.old.rows }
@@ -66,25 +70,14 @@ fn enter_row(
     requires columns { length pivots.old.target ≡ length cands.now.rows }
     ensures step { OnOk result (IsRowStep cands.now pivots.old pivots.new row.now) }
     ensures taken { OnOk result (taken.new ≡ lead_places pivots.new.rows) }
+    ensures spaces { OnOk result (AllByRecursion (IsSpace cands.now) spaces.new.items) }
 {
     matrix_facts(cands);
     if !has_free_row(cands, taken, i64::from(row.degree())) {
         return Ok(());
     }
-    let sum = sum_of(alloc, cands.modulus(), row)?;
-    enter(alloc, cands, leads, sum, pivots, taken)?;
+    enter(alloc, cands, leads, spaces, row, pivots, taken)?;
     Ok(())
-}
-
-/// The sum that a vector is.
-fn sum_of(alloc: Global, modulus: Modulus, v: &Vector) -> Result<Sum, OutOfMemory>
-    requires canonical { IsCanonical (place_cmp ones) modulus v.now.terms }
-    ensures sum { IfOk result (λ s. s ≡ record { modulus = modulus; degree = v.now.degree; terms = v.now.terms }) }
-{
-    modulus.facts();
-    let mut sum = Sum::new(alloc, modulus, v.degree());
-    sum.push_all(alloc, v.terms())?;
-    Ok(sum)
 }
 
 /// Does so with the S-vector of two rows, unless each row of its degree has a pivot, or others give what it gives.
@@ -92,6 +85,7 @@ fn enter_pair(
     alloc: Global,
     cands: &Matrix,
     leads: &Leads,
+    spaces: &mut Vec<Space>,
     i: usize,
     j: usize,
     pivots: &mut Matrix,
@@ -99,6 +93,7 @@ fn enter_pair(
 ) -> Result<(), OutOfMemory>
     requires basis { IsLowBasis cands.now }
     requires leads { leads.now ≡ lead_places cands.now.rows }
+    requires spaces { AllByRecursion (IsSpace cands.now) spaces.old.items }
     requires first { i < j }
     requires second { j < length cands.now.rows }
     requires pivots { ArePivots pivots.old }
@@ -107,6 +102,7 @@ fn enter_pair(
     requires columns { length pivots.old.target ≡ length cands.now.rows }
     ensures step { OnOk result (IsPairStep cands.now i j pivots.old pivots.new) }
     ensures taken { OnOk result (taken.new ≡ lead_places pivots.new.rows) }
+    ensures spaces { OnOk result (AllByRecursion (IsSpace cands.now) spaces.new.items) }
 {
     matrix_facts(cands);
     let Some(degree) = pair_degree(cands, i, j) else {
@@ -118,8 +114,8 @@ fn enter_pair(
     if is_passed_over(cands, i, j) {
         return Ok(());
     }
-    let sum = s_sum(alloc, cands, i, j)?;
-    enter(alloc, cands, leads, sum, pivots, taken)?;
+    let v = s_sum(alloc, cands, i, j)?.into_vector(alloc)?;
+    enter(alloc, cands, leads, spaces, &v, pivots, taken)?;
     Ok(())
 }
 
@@ -138,12 +134,30 @@ pub(crate) fn pivots_of(alloc: Global, cands: &Matrix, base: &Matrix) -> Result<
     let leads = Leads::of(alloc, cands)?;
     let mut pivots = no_pivots(alloc, cands)?;
     let mut taken = Leads::new(alloc);
+    let mut spaces = Vec::new(alloc);
     for l in 0..base.rows() {
-        enter_row(alloc, cands, &leads, base.row(l), &mut pivots, &mut taken)?;
+        enter_row(
+            alloc,
+            cands,
+            &leads,
+            &mut spaces,
+            base.row(l),
+            &mut pivots,
+            &mut taken,
+        )?;
     }
     for j in 0..cands.rows() {
         for i in 0..j {
-            enter_pair(alloc, cands, &leads, i, j, &mut pivots, &mut taken)?;
+            enter_pair(
+                alloc,
+                cands,
+                &leads,
+                &mut spaces,
+                i,
+                j,
+                &mut pivots,
+                &mut taken,
+            )?;
         }
     }
     matrix_facts(&pivots);

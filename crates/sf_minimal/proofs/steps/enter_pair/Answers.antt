@@ -23,11 +23,12 @@ returns-then-not-has_free_row c =
         refl,
       );
       taken = c.requires.taken;
+      spaces = c.requires.spaces;
     }
 
 pub returns-then-is_passed_over : goal.returns-then-is_passed_over
 returns-then-is_passed_over c =
-    record { step = inr (inr (inl (c.is_passed_over.ensures.over.0 c.if-is_passed_over.true)), refl); taken = c.requires.taken }
+    record { step = inr (inr (inl (c.is_passed_over.ensures.over.0 c.if-is_passed_over.true)), refl); taken = c.requires.taken; spaces = c.requires.spaces }
 
 pub s_sum-requires-clause-room : goal.s_sum-requires-clause-room
 s_sum-requires-clause-room c =
@@ -45,7 +46,7 @@ enter-requires-clause-inside c =
     let positions = not_unequal _ _ c.in-Some.ensures.none.1 in
     let first : c.args.i < length m.rows = let a = c.requires.first in let b = c.requires.second in omega (arith, a, b) in
     let inside = pair-inside m (over_plain m.ring facts.weights facts.prime) facts.matrix c.requires.basis c.args.i c.args.j first c.requires.second positions in
-    subst (InSpan m) (sym c.in_ok-sum.ensures.sum)
+    subst (InSpan m) (sym (c.in_ok-v.ensures.vector ∙ c.in_ok-s_sum.ensures.sum))
     (subst (λ (w : Weights). InSpan m (record { degree = place_degree w m.target (lcm_place (lead_at m.rows) c.args.i c.args.j); terms = s_vector m.ring m.rows c.args.i c.args.j }))
     (ap (λ (r : Ring). r.weights) facts.weights) inside)
 
@@ -58,7 +59,15 @@ returns c =
         not_unequal _ _ c.in-Some.ensures.none.1,
         subst (λ (w : Weights). IsStep m c.args.pivots.now c.enter.new.pivots (place_degree w m.target (lcm_place (lead_at m.rows) c.args.i c.args.j)) (s_vector m.ring m.rows c.args.i c.args.j))
             (sym (ap (λ (r : Ring). r.weights) facts.weights))
-            (subst (λ (x : Vector). IsStep m c.args.pivots.now c.enter.new.pivots x.degree x.terms) c.in_ok-sum.ensures.sum c.in_ok-enter.ensures.step),
+            (subst (λ (x : Vector). IsStep m c.args.pivots.now c.enter.new.pivots x.degree x.terms) (c.in_ok-v.ensures.vector ∙ c.in_ok-s_sum.ensures.sum) c.in_ok-enter.ensures.step),
       );
       taken = c.in_ok-enter.ensures.taken;
+      spaces = c.in_ok-enter.ensures.spaces;
     }
+
+pub enter-requires-clause-degree : goal.enter-requires-clause-degree
+enter-requires-clause-degree c =
+    let wide : to_z w64 (of_z w64 c.in-Some.degree) ≡ c.in-Some.degree = search rules in
+    let found = c.has_free_row.ensures.row.0 c.if-not-has_free_row.false in
+    let own = ap (λ (v : Vector). v.degree) (c.in_ok-v.ensures.vector ∙ c.in_ok-s_sum.ensures.sum) in
+    (found.0, found.1, own ∙ sym c.in-Some.ensures.degree ∙ sym wide ∙ found.2)

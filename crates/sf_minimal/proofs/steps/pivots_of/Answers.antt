@@ -1,9 +1,11 @@
 use Rattle.std.proofs.Common.{◌≡◌, ◌<◌, sym, ap, subst, ◌∙◌, arith, length}
+use Rattle.std.specs.List.{AllByRecursion}
 use Rattle.sf_algebra.specs.Matrices.{Matrix}
 use Rattle.sf_algebra.specs.Vectors.{Vector}
 use Rattle.sf_algebra.proofs.Monomials.Weights.{field_ring}
 use Rattle.sf_groebner.specs.Spans.{InSpan}
 use Rattle.sf_groebner.proofs.Constructions.LeadDivisors.{lead_places}
+use Rattle.sf_minimal.specs.Spaces.{IsSpace}
 use Rattle.sf_minimal.specs.Steps.{IsRowStep}
 use Rattle.sf_minimal.proofs.Decisions.{decisions}
 use Rattle.sf_minimal.proofs.Dividing.{over_plain}
@@ -19,6 +21,7 @@ loop-l-init c =
       positive,
       IsState-start m c.args.base.now positive c.requires.basis.reduced.monic c.requires.basis.reduced c.in_ok-pivots.pivots c.in_ok-pivots.ensures.none,
       c.new-taken.ensures.empty ∙ sym (ap (λ (x : Matrix). lead_places x.rows) c.in_ok-pivots.ensures.none),
+      subst (AllByRecursion (IsSpace m)) (sym c.new-spaces.ensures.items) tt,
     )
 
 pub enter_row-requires-clause-inside : goal.enter_row-requires-clause-inside
@@ -41,6 +44,7 @@ loop-l-preserved c =
           (subst (λ (v : Vector). IsRowStep m c.loop-l.pivots c.enter_row.new.pivots v)
           (sym (vector_at-slice_get base.rows c.loop-l.l c.row.result.now c.row.ensures.row)) c.in_ok-enter_row.ensures.step),
       c.in_ok-enter_row.ensures.taken,
+      c.in_ok-enter_row.ensures.spaces,
     )
 
 pub loop-j-init : goal.loop-j-init
@@ -48,7 +52,7 @@ loop-j-init c =
     let invariant = c.loop-l.invariant in
     let same : c.loop-l.l ≡ length c.args.base.now.rows =
     let a = c.loop-l-test.false in let b = c.rows-l-end.ensures.len in let e = c.loop-l.auto.l-end in omega (arith, a, b, e) in
-    (invariant.0, subst (λ l. IsState c.args.cands.now c.args.base.now invariant.0 c.loop-l.pivots l 0 0) same invariant.1, invariant.2)
+    (invariant.0, subst (λ l. IsState c.args.cands.now c.args.base.now invariant.0 c.loop-l.pivots l 0 0) same invariant.1, invariant.2, invariant.3)
 
 pub loop-i-preserved : goal.loop-i-preserved
 loop-i-preserved c =
@@ -60,6 +64,7 @@ loop-i-preserved c =
       invariant.0,
       IsState-pair m base invariant.0 basis.monic basis c.loop-i.pivots c.enter_pair.new.pivots (length base.rows) c.loop-i.i c.loop-j.j invariant.1 c.loop-i-test.true later c.in_ok-enter_pair.ensures.step,
       c.in_ok-enter_pair.ensures.taken,
+      c.in_ok-enter_pair.ensures.spaces,
     )
 
 pub loop-j-preserved : goal.loop-j-preserved
@@ -73,6 +78,7 @@ loop-j-preserved c =
       IsState-next m base invariant.0 basis.monic basis c.loop-i.pivots (length base.rows) c.loop-j.j
           (subst (λ i. IsState m base invariant.0 c.loop-i.pivots (length base.rows) c.loop-j.j i) same invariant.1),
       invariant.2,
+      invariant.3,
     )
 
 pub returns-clause-decide : goal.returns-clause-decide
