@@ -103,7 +103,7 @@ module _ (limit : ℕ) (g base : Matrix) (rings : g.ring ≡ base.ring) (targets
           subst HasRelationDegrees (sym found.2) (at_look v vs e found.0 found.1.looked_at found.1.small relations)
 
 -- rows that are kept are among the candidates
-kept_degrees : (P : ℤ → Type 0) (n base g : Matrix) → KeepsGenerators n base g → AllByRecursion P (row_degrees n)
+pub kept_degrees : (P : ℤ → Type 0) (n base g : Matrix) → KeepsGenerators n base g → AllByRecursion P (row_degrees n)
     → AllByRecursion P (row_degrees g)
 kept_degrees P n base g h degrees =
     subst (λ (m : Matrix). AllByRecursion P (row_degrees m)) (sym h.same)

@@ -2,10 +2,11 @@
 -- Introduction to Homological Algebra", section 2.2; Cox, Little, O'Shea, "Using Algebraic Geometry", chapter 6, section 2.)
 use Rattle.std.specs.Prelude.{◌≡◌, ℕ, ◌≤◌, List, [], drop, length, Ok}
 use Rattle.std.specs.List.{AllByRecursion}
-use Rattle.sf_algebra.specs.Matrices.{Matrix}
+use Rattle.sf_algebra.specs.Matrices.{Matrix, IsMatrix, row_degrees}
 use Rattle.sf_algebra.specs.Monomials.{VARIABLES}
 use Rattle.sf_groebner.specs.Resolutions.{IsResolution}
 use Rattle.sf_matrix.specs.Runs.{Run}
+use Rattle.sf_genmor.specs.PresentationDegrees.{IsDegreeUpTo}
 use Rattle.sf_object.specs.ResolutionPlans.{resolution_plan}
 use Rattle.sf_variables.specs.Variables.{IsMatrixInVariables}
 
@@ -27,3 +28,15 @@ EndsAfterVariables =
     (n : ℕ) → 1 ≤ n → n ≤ VARIABLES → (limit : ℕ) (relations : Matrix) (k : ℕ) (looked steps : List Matrix)
     → IsMatrixInVariables n relations → Run limit (resolution_plan relations k) looked (Ok steps)
     → AllByRecursion (λ (step : Matrix). step.rows ≡ []) (drop n steps)
+
+-- a matrix over the ring of the relations; its rows have degrees that exceed those of small matrices by at most the limit
+pub record IsSoundStep (limit : ℕ) (relations step : Matrix) : Type 0 where
+  pub ring : step.ring ≡ relations.ring
+  pub matrix : IsMatrix step
+  pub degrees : AllByRecursion (IsDegreeUpTo limit) (row_degrees step)
+
+-- so is each step, whatever the degrees of the relations
+abbrev pub AnswersSoundSteps : Type 0
+AnswersSoundSteps =
+    (limit : ℕ) (relations : Matrix) (k : ℕ) (looked steps : List Matrix)
+    → Run limit (resolution_plan relations k) looked (Ok steps) → AllByRecursion (IsSoundStep limit relations) steps

@@ -8,7 +8,7 @@ mod making;
 mod resolution;
 mod shelf;
 
-pub use laws::{resolutions_are_answered, resolutions_end_after_variables};
+pub use laws::{resolutions_are_answered, resolutions_end_after_variables, steps_are_sound};
 pub use making::{first_step, next_step};
 pub use resolution::Resolution;
 pub use shelf::Shelf;
