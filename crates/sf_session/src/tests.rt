@@ -10,11 +10,12 @@ use std::cell::Cell;
 use std::rc::Rc;
 use std::test::Fail;
 
-const FIRST: &[u8] =
-    b"spectral 1\nring 101 x y\nmodule K degrees 0 relations [x;y]\nmodule R degrees 0 relations []\nresolve K 3\n";
+const FIRST: &[u8] = b"spectral 1\nring 101 x y\nmodule K degrees 0 relations [x;y]\nshow K\n";
 
-const FIRST_REPLIES: &[u8] =
-    b"ok\nok\nok\nok\nd1 (1,1)->(0) [x;y]\nd2 (2)->(1,1) [y,100*x]\nd3 ()->(2) []\n";
+const FIRST_REPLIES: &[u8] = b"ok\nok\nok\ndegrees (0)\nrels (1,1)->(0) [x;y]\n";
+
+const RESOLUTION: &[u8] =
+    b"spectral 1\nring 101 x y\nmodule K degrees 0 relations [x;y]\nmodule R degrees 0 relations []\nresolve K 3\n";
 
 /// What a run over this script writes, and how it ends. Each end moves at most `piece` bytes in a call; the
 /// lists have the numbers of the pulls and of the pushes that fail.
@@ -194,7 +195,7 @@ fn answers_by_resolutions(rt: HostRuntime) -> Result<(), Fail> {
         ),
         (
             b"spectral 1\nring 101 x y\nlimit 2\nmodule N degrees 0 relations [x^2;x*y+y^2]\nresolve N 1\nmodule P degrees 0 relations [x*y;x^2]\nresolve P 1\nresolve P 2\n",
-            b"ok\nok\nok\nok\nerror large 2 1\nok\nd1 (2,2)->(0) [x*y;x^2]\nd1 (2,2)->(0) [x*y;x^2]\nd2 (3)->(2,2) [x,100*y]\n",
+            b"ok\nok\nok\nok\nerror large 2 1\nok\nd1 (2,2)->(0) [x^2;x*y]\nd1 (2,2)->(0) [x^2;x*y]\nd2 (3)->(2,2) [y,100*x]\n",
         ),
     ];
     for (script, wanted) in cases {
@@ -298,7 +299,7 @@ fn tells_a_failing_sink(rt: HostRuntime) -> Result<(), Fail> {
     }
 
     // Each reply is one push where the sink takes it whole.
-    let (status, sink) = run_over(rt.alloc(), &["run"], FIRST, 4096, &[], &[2])?;
+    let (status, sink) = run_over(rt.alloc(), &["run"], RESOLUTION, 4096, &[], &[2])?;
     assert_eq!(rt; status, Status::WriteFault);
     assert_eq!(rt; sink.bytes(), b"ok\n".as_slice());
     Ok(())
