@@ -37,7 +37,7 @@ zero_transposed z h =
     subst IsZeroMatrix (sym zero) (IsZeroMatrix-zero_matrix z.ring (map neg_ℤ z.target) (map neg_ℤ (row_degrees z)))
 
 -- the transposes are a complex in the other order
-transposed_complex : (a b n : Matrix) → IsComplexBeside a b n → IsComplexBeside (transposed b) (transposed a) n
+pub transposed_complex : (a b n : Matrix) → IsComplexBeside a b n → IsComplexBeside (transposed b) (transposed a) n
 transposed_complex a b n h = record {
   first = transposed_beside b n (record {
     field = h.first.field;

@@ -34,7 +34,7 @@ product_rows b m rings targets vs h =
     }) vs h
 
 -- what each row of a product is: the row of the first factor, combined
-rows_of_product : (a m : Matrix) (P : Vector → Type 0) → AllByRecursion P (matrix_product a m).rows
+pub rows_of_product : (a m : Matrix) (P : Vector → Type 0) → AllByRecursion P (matrix_product a m).rows
     → AllByRecursion (λ v. P (combined_rows a.ring m.rows v)) a.rows
 rows_of_product a m P h = go a.rows h
   where

@@ -17,9 +17,9 @@ use Rattle.sf_functor.specs.Functors.{tensor_matrix, tensor_relations}
 use Rattle.sf_functor.specs.TensorPlans.{relations_between, tensor_plan}
 
 -- the numbers of rows and columns of all relations
-length-rows : (m n : Matrix)
+pub length-relations_between : (m n : Matrix)
     → length (relations_between m n).rows ≡ length m.rows * length n.target + length m.target * length n.rows
-length-rows m n =
+length-relations_between m n =
     let first : length (tensor_matrix m n).rows ≡ length m.rows * length n.target =
     length-kronecker m (identity m.ring n.target) ∙ ap (λ k. length m.rows * k) (length-unit_rows 0 n.target) in
     let second : length (tensor_relations m.target n).rows ≡ length m.target * length n.rows =
@@ -34,7 +34,7 @@ unfolding tensor_plan
 tensor_ends t m n fault field same_m same_n ends =
     subst (λ (x : Matrix × Matrix). EndsBySize (length x.0.rows * length x.1.target + length x.0.target * length x.1.rows)
     (length x.0.target * length x.1.target) fault) (λ i. (same_m i, same_n i)) ends
-    t (relations_between m n) field (length-rows m n) (length-degree_sums m.target n.target)
+    t (relations_between m n) field (length-relations_between m n) (length-degree_sums m.target n.target)
 
 -- else the relations are stacked
 pub tensor_found : {t u : Table} (m n : Matrix) {first second rows : Matrix} → first ≡ tensor_matrix m n
